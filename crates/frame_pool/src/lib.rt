@@ -1,0 +1,4 @@
+mod pool;
+
+pub use pool::FramePool;
+pub use pool::calls::PoolStore;

@@ -1,0 +1,6 @@
+pub mod Refusals
+pub mod Stores
+pub mod Memory
+pub mod Calls
+pub mod Moves
+pub mod Laws
