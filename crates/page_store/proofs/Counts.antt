@@ -35,3 +35,13 @@ counted-same f n x h =
     (λ k d b.
     let kn : k < n = omega arith in
     getD-map-counting f 0 n k k d kn (omega arith) ∙ h k kn ∙ sym (getD-replicate n k x d kn))
+
+-- two such lists with the same elements
+pub counted-ext : {X : Type 0} (f g : ℕ → X) (n : ℕ) → ((k : ℕ) → k < n → g k ≡ f k) → map g (counting 0 n) ≡ map f (counting 0 n)
+counted-ext f g n h =
+    let lf = length-map-counting f 0 n in
+    let lg = length-map-counting g 0 n in
+    same-lists _ _ (lg ∙ sym lf)
+    (λ k d b.
+    let kn : k < n = omega arith in
+    getD-map-counting g 0 n k k d kn (omega arith) ∙ h k kn ∙ sym (getD-map-counting f 0 n k k d kn (omega arith)))

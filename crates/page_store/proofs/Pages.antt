@@ -9,7 +9,7 @@ use borrow.Rule.Slice.PartMut.{putMid}
 use Rattle.std.specs.shelf.Lists.{All}
 use Rattle.std.proofs.shelf.Bits.{mul-le}
 use Rattle.std.proofs.shelf.Elements.{all-getD, all-from-getD, all-append, all-take, all-drop}
-use Rattle.std.proofs.shelf.Lists.{drop-drop, drop-take, drop-at, take-at, getD-take, getD-drop, length-drop, length-take-le}
+use Rattle.std.proofs.shelf.Lists.{drop-drop, drop-take, drop-at, take-at, length-append, getD-take, getD-drop, length-drop, length-take-le}
 use Rattle.std.proofs.shelf.Parts.{take-putMid-below, drop-putMid}
 use Rattle.std.proofs.shelf.Tests.{cases-order}
 use Rattle.page_store.specs.Stores.{Bytes}
@@ -24,12 +24,13 @@ place-ends i n p h =
     let e2 : suc i * p ≡ i * p + p = suc-mul i p in
     omega arith
 
-pub page-length : (i n p : ℕ) (bs : List ℕ) → i < n → length bs ≡ n * p → length (pageAt p bs i) ≡ p
+-- a page that lies within the bytes is p bytes long
+pub page-length-within : (i p : ℕ) (bs : List ℕ) → i * p + p ≤ length bs → length (pageAt p bs i) ≡ p
 unfolding pageAt
-page-length i n p bs h l =
-    let e = place-ends i n p h in
-    let d = length-drop (i * p) bs in
-    length-take-le p (drop (i * p) bs) (omega arith)
+page-length-within i p bs h = let d = length-drop (i * p) bs in length-take-le p (drop (i * p) bs) (omega arith)
+
+pub page-length : (i n p : ℕ) (bs : List ℕ) → i < n → length bs ≡ n * p → length (pageAt p bs i) ≡ p
+page-length i n p bs h l = let e = place-ends i n p h in page-length-within i p bs (omega arith)
 
 -- byte j of page i
 pub page-byte : (p i j : ℕ) (bs : List ℕ) → j < p → getD (pageAt p bs i) j 0 ≡ getD bs (i * p + j) 0
@@ -56,6 +57,13 @@ pub page-here : (p i : ℕ) (bs ys : List ℕ) → i * p + p ≤ length bs → l
 unfolding pageAt withPageAt
 page-here p i bs ys h ly =
     ap (take p) (drop-at (take (i * p) bs) _ (i * p) (length-take-le (i * p) bs (omega arith))) ∙ take-at ys _ p ly
+
+pub with-page-length : (p i : ℕ) (bs ys : List ℕ) → i * p + p ≤ length bs → length ys ≡ p → length (withPageAt p bs i ys) ≡ length bs
+unfolding withPageAt
+with-page-length p i bs ys h ly =
+    let t = length-take-le (i * p) bs (omega arith) in
+    let d = length-drop (i * p + p) bs in
+    length-append (take (i * p) bs) _ ∙ ap (λ n. length (take (i * p) bs) + n) (length-append ys _) ∙ (omega arith)
 
 -- any other place
 pub page-other : (p i j : ℕ) (bs ys : List ℕ) → i * p + p ≤ length bs → length ys ≡ p → (j ≡ i → ⊥) → pageAt p (withPageAt p bs i ys) j ≡ pageAt p bs j

@@ -1,0 +1,5 @@
+pub mod Positions
+pub mod Arrays
+pub mod Copies
+pub mod Made
+pub mod Founds

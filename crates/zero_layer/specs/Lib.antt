@@ -1,0 +1,4 @@
+pub mod Zeros
+pub mod Layer
+pub mod Limits
+pub mod Meaning

@@ -1,0 +1,5 @@
+mod layer;
+mod zeros;
+
+pub use layer::ZeroLayer;
+pub use layer::calls::LayerStore;
