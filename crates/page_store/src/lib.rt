@@ -6,6 +6,7 @@ mod laws;
 mod lent;
 mod moves;
 mod refusal;
+mod sizes;
 mod store;
 
 pub use bytes::tell_bytes;
@@ -14,6 +15,7 @@ pub use lent::Lent;
 pub use lent::LentStore;
 pub use moves::move_page;
 pub use refusal::Refusal;
+pub use sizes::is_page_size;
 pub use store::PageStore;
 
 impl Refusal {

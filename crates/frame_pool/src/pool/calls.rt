@@ -12,6 +12,7 @@ ghost use Rattle.frame_pool.specs.Meaning.{memoryOf, modelOf, soundPool};
 use super::FramePool;
 use page_store::PageStore;
 use page_store::Refusal;
+use page_store::is_page_size;
 use page_store::tell_bytes;
 
 pub impl PageStore for FramePool<'_> as PoolStore {
@@ -140,7 +141,7 @@ impl<'a> FramePool<'a> {
     pub fn check(page: usize, count: usize, bytes: &[u8], marks: &[u8]) -> Result<(), Refusal>
         ensures { λ r. ⌜ r ≡ answer (poolRefusal page count (length (now (bytes .entry))) (length (now (marks .entry)))) tt ⌝ }
     {
-        if page != 64 && page != 256 && page != 1024 && page != 4096 {
+        if !is_page_size(page) {
             return Err(Refusal::PageSize);
         }
         if count < 1 || count > 2048 {

@@ -13,6 +13,7 @@ use super::SwapLog;
 use super::moves::copy_page;
 use page_store::PageStore;
 use page_store::Refusal;
+use page_store::is_page_size;
 use page_store::tell_bytes;
 
 // The number of a dead position.
@@ -29,7 +30,7 @@ impl<'a> SwapLog<'a> {
     ) -> Result<(), Refusal>
         ensures { λ r. ⌜ r ≡ answer (logRefusal page count positions (length (now (numbers .entry))) (length (now (bytes .entry)))) tt ⌝ }
     {
-        if page != 64 && page != 256 && page != 1024 && page != 4096 {
+        if !is_page_size(page) {
             return Err(Refusal::PageSize);
         }
         if count < 1 || count > 2048 || positions < count || positions > 2 * count {
