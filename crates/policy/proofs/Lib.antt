@@ -1,0 +1,5 @@
+pub mod Within
+pub mod Turns
+pub mod Firsts
+pub mod Ratios
+pub mod Ranks
