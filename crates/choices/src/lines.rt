@@ -76,22 +76,33 @@ fn rows(text: &str) -> Option<[Row; 8]> {
 
 fn row(word: &str) -> Option<Row> {
     let (offered, rest) = word.split_once(',')?;
-    let (resident, rest) = rest.split_once(',')?;
-    let (active, rest) = rest.split_once(',')?;
-    let (minimum, rest) = rest.split_once(',')?;
-    let (shares, rank) = rest.split_once(',')?;
+    let (resident, rest) = count(rest)?;
+    let (active, rest) = count(rest)?;
+    let (minimum, rest) = count(rest)?;
+    let (shares, rank) = funds(rest)?;
     Some(Row {
         offered: flag(offered)?,
-        resident: narrow(resident)?,
-        active: narrow(active)?,
-        minimum: narrow(minimum)?,
-        shares: wide(shares)?,
-        rank: if rank == "-" {
-            None
-        } else {
-            Some(narrow(rank)?)
-        },
+        resident,
+        active,
+        minimum,
+        shares,
+        rank,
     })
+}
+
+// The number before the first comma, and what stands after it.
+fn count(text: &str) -> Option<(u16, &str)> {
+    let (number, rest) = text.split_once(',')?;
+    Some((narrow(number)?, rest))
+}
+
+fn funds(text: &str) -> Option<(u32, Option<u16>)> {
+    let (shares, rank) = text.split_once(',')?;
+    let shares = wide(shares)?;
+    if rank == "-" {
+        return Some((shares, None));
+    }
+    Some((shares, Some(narrow(rank)?)))
 }
 
 fn flag(text: &str) -> Option<bool> {

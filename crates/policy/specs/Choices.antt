@@ -13,10 +13,13 @@ abbrev pub takesOver : (Row → Row → Bool) → List Row → Option ℕ → �
 takesOver before rows None g = offeredAt rows g
 takesOver before rows (Some b) g = offeredAt rows g && before (rowAt rows g) (rowAt rows b)
 
+abbrev pub betterOf : (Row → Row → Bool) → List Row → Option ℕ → ℕ → Option ℕ
+betterOf before rows b g = cond (takesOver before rows b g) (Some g) b
+
 -- the best of the rows below n, the first among equals; nobody where none of them is offered
 unfoldable pub bestBelow : (Row → Row → Bool) → List Row → ℕ → Option ℕ
 bestBelow before rows zero = None
-bestBelow before rows (suc n) = cond (takesOver before rows (bestBelow before rows n) n) (Some n) (bestBelow before rows n)
+bestBelow before rows (suc n) = betterOf before rows (bestBelow before rows n) n
 
 -- the best of all rows
 abbrev pub choiceBy : (Row → Row → Bool) → List Row → Option ℕ

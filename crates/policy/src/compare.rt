@@ -2,7 +2,7 @@ ghost use mathlib.Core.Path.{_≡_};
 ghost use mathlib.Core.Bool.{Bool};
 ghost use Rattle.policy.specs.declared.row.Row.{Row};
 ghost use Rattle.policy.specs.Rows.{Limits};
-ghost use Rattle.policy.specs.Choices.{takesOver, choiceBy};
+ghost use Rattle.policy.specs.Choices.{takesOver, betterOf, choiceBy};
 ghost use Rattle.policy.specs.Meaning.{rowsOf};
 use crate::Row;
 use crate::Rows;
@@ -24,9 +24,16 @@ pub fn best<C: Compare>(by: &C, rows: &Rows) -> Option<usize>
 {
     let mut best = None;
     for guest in 0..8 {
-        if takes_over(by, rows, best, guest) {
-            best = Some(guest);
-        }
+        best = better(by, rows, best, guest);
+    }
+    best
+}
+
+fn better<C: Compare>(by: &C, rows: &Rows, best: Option<usize>, guest: usize) -> Option<usize>
+    ensures { λ r. ⌜ r ≡ betterOf (C·Compare .before (now (by .entry))) (rowsOf (now (rows .entry))) best guest ⌝ }
+{
+    if takes_over(by, rows, best, guest) {
+        return Some(guest);
     }
     best
 }
