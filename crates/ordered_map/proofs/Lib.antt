@@ -1,0 +1,17 @@
+pub mod Heights
+pub mod Nths
+pub mod Sorted
+pub mod Lookups
+pub mod Bonds
+pub mod Rotations
+pub mod Leans
+pub mod Mends
+pub mod Rises
+pub mod Falls
+pub mod Leasts
+pub mod Excises
+pub mod Takes
+pub mod Enters
+pub mod Chains
+pub mod Pairs
+pub mod Served
