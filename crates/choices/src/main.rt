@@ -1,3 +1,5 @@
+#![tactic(auto)]
+
 // Reads lines, and writes for each the key or the choice that it asks for.
 mod answer;
 mod choose;

@@ -1,3 +1,5 @@
+#![tactic(auto)]
+
 ghost use Rattle.std.specs.Prelude.{◌≡◌, ◌<◌, ltb, length, if◌then◌else◌, Some, None, nat_lt};
 ghost use Rattle.page_store.specs.Memory.{with_page_at};
 ghost use Rattle.fee_schedule.specs.Fees.{line_count, fee_bytes, fee_at, FeeReadsBack, OtherFeesStay};

@@ -1,3 +1,5 @@
+#![tactic(auto)]
+
 mod pool;
 
 pub use pool::FramePool;

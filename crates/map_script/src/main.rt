@@ -1,3 +1,5 @@
+#![tactic(auto)]
+
 // Plays lines of calls on a map of 1,024 records, and writes the answer to each.
 mod answer;
 mod command;

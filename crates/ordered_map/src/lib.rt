@@ -1,3 +1,5 @@
+#![tactic(auto)]
+
 // An ordered map in a lent table of records: a search tree balanced by the rule of Adelson-Velsky and Landis (1962).
 mod chain;
 mod edit;

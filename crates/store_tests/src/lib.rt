@@ -1,3 +1,5 @@
+#![tactic(auto)]
+
 // Tests of the stores at their limits: each page size, the smallest and the largest size, lengths one off, the last slot and the one after it.
 use page_store::{PageStore, Refusal};
 use std::alloc::{AllocError, Global};

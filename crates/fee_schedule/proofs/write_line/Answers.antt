@@ -7,4 +7,4 @@ pub returns : goal.returns
 returns c =
     let page = c.args.page.now in
     let line = c.args.line in
-    written_is 4 line _ page _ (omega arith) ∙ ap (with_page_at 4 page line) c.copy-from-slice.ensures.after
+    written_is 4 line _ page _ (omega arith) ∙ ap (with_page_at 4 page line) c.copy_from_slice.ensures.after

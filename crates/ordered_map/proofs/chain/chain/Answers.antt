@@ -5,13 +5,13 @@ use Rattle.ordered_map.proofs.chain.chain.Goals as goal
 pub loop-i-init : goal.loop-i-init
 loop-i-init g c = (linked_none _, omega arith)
 
-pub offset-bounds-nodes-i : goal.offset-bounds-nodes-i
-offset-bounds-nodes-i g c =
+pub offset_bounds-nodes-i : goal.offset_bounds-nodes-i
+offset_bounds-nodes-i g c =
     let h : c.loop-i.i - 1 < length c.args.nodes.now = omega (arith, c.loop-i.invariant.1, c.loop-i.auto.nodes, c.loop-i-test.true) in
     search rules
 
-pub offset-bounds-nodes-i-in-loop-i : goal.offset-bounds-nodes-i-in-loop-i
-offset-bounds-nodes-i-in-loop-i g c =
+pub offset_bounds-nodes-i-in-loop-i : goal.offset_bounds-nodes-i-in-loop-i
+offset_bounds-nodes-i-in-loop-i g c =
     let h : c.loop-i.i - 1 < length c.args.nodes.now = omega (arith, c.loop-i.invariant.1, c.loop-i.auto.nodes, c.loop-i-test.true) in
     search rules
 

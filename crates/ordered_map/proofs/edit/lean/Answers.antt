@@ -5,8 +5,8 @@ use Rattle.ordered_map.proofs.Rotations.{stage}
 use Rattle.ordered_map.proofs.Leans.{heavy_in, single-ready-1, single-ready-2, single-made, inner-in, inner-parts, double-ready-1, double-ready-2, double-ready-3, double-made}
 use Rattle.ordered_map.proofs.edit.lean.Goals as goal
 
-pub offset-bounds-nodes-heavy : goal.offset-bounds-nodes-heavy
-offset-bounds-nodes-heavy g c =
+pub offset_bounds-nodes-heavy : goal.offset_bounds-nodes-heavy
+offset_bounds-nodes-heavy g c =
     let h : c.args.heavy < length c.args.nodes.now = heavy_in _ _ _ _ _ _ _ _ _ c.requires.4 in
     search rules
 
@@ -17,53 +17,53 @@ pub join-requires : goal.join-requires
 join-requires g c =
     single-ready-1 _ _ _ _ _ _ _ _ _ _ _ (stage _ _ _ _ _ _ _ _ _ _ _ c.requires.4 _ c.index-nodes-heavy.is c.pick-outer.ensures c.pick-inner.ensures)
 
-pub join-requires-then-height-of : goal.join-requires-then-height-of
-join-requires-then-height-of g c =
+pub join-requires-then-height_of : goal.join-requires-then-height_of
+join-requires-then-height_of g c =
     single-ready-2 _ _ _ _ _ _ _ _ _ _ _ (stage _ _ _ _ _ _ _ _ _ _ _ c.requires.4 _ c.index-nodes-heavy.is c.pick-outer.ensures c.pick-inner.ensures) _ c.join.ensures
 
-pub offset-bounds-nodes-inner : goal.offset-bounds-nodes-inner
-offset-bounds-nodes-inner g c =
-    let gt : ht c.args.nodes.now c.pick-outer.result < ht c.args.nodes.now c.pick-inner.result = omega (arith, c.height-of.ensures, c.height-of-2.ensures, c.if-height-of.false) in
+pub offset_bounds-nodes-inner : goal.offset_bounds-nodes-inner
+offset_bounds-nodes-inner g c =
+    let gt : ht c.args.nodes.now c.pick-outer.result < ht c.args.nodes.now c.pick-inner.result = omega (arith, c.height_of.ensures, c.height_of-2.ensures, c.if-height_of.false) in
     let t = (stage _ _ _ _ _ _ _ _ _ _ _ c.requires.4 _ c.index-nodes-heavy.is c.pick-outer.ensures c.pick-inner.ensures) in
     let h : c.pick-inner.result < length c.args.nodes.now = inner-in _ _ _ _ _ _ _ _ _ _ _ t gt in
     search rules
 
 pub bounds-nodes-inner : goal.bounds-nodes-inner
 bounds-nodes-inner g c =
-    let gt : ht c.args.nodes.now c.pick-outer.result < ht c.args.nodes.now c.pick-inner.result = omega (arith, c.height-of.ensures, c.height-of-2.ensures, c.if-height-of.false) in
+    let gt : ht c.args.nodes.now c.pick-outer.result < ht c.args.nodes.now c.pick-inner.result = omega (arith, c.height_of.ensures, c.height_of-2.ensures, c.if-height_of.false) in
     let t = (stage _ _ _ _ _ _ _ _ _ _ _ c.requires.4 _ c.index-nodes-heavy.is c.pick-outer.ensures c.pick-inner.ensures) in
     inner-in _ _ _ _ _ _ _ _ _ _ _ t gt
 
-pub join-requires-else-height-of : goal.join-requires-else-height-of
-join-requires-else-height-of g c =
-    let gt : ht c.args.nodes.now c.pick-outer.result < ht c.args.nodes.now c.pick-inner.result = omega (arith, c.height-of.ensures, c.height-of-2.ensures, c.if-height-of.false) in
+pub join-requires-else-height_of : goal.join-requires-else-height_of
+join-requires-else-height_of g c =
+    let gt : ht c.args.nodes.now c.pick-outer.result < ht c.args.nodes.now c.pick-inner.result = omega (arith, c.height_of.ensures, c.height_of-2.ensures, c.if-height_of.false) in
     let t = (stage _ _ _ _ _ _ _ _ _ _ _ c.requires.4 _ c.index-nodes-heavy.is c.pick-outer.ensures c.pick-inner.ensures) in
     let d = inner-parts _ _ _ _ _ _ _ _ _ _ _ t gt _ _ _ c.index-nodes-inner.is c.pick-first.ensures c.pick-second.ensures in
     double-ready-1 _ _ _ _ _ _ _ _ _ _ _ t gt _ _ d
 
-pub join-requires-else-height-of-2 : goal.join-requires-else-height-of-2
-join-requires-else-height-of-2 g c =
-    let gt : ht c.args.nodes.now c.pick-outer.result < ht c.args.nodes.now c.pick-inner.result = omega (arith, c.height-of.ensures, c.height-of-2.ensures, c.if-height-of.false) in
+pub join-requires-else-height_of-2 : goal.join-requires-else-height_of-2
+join-requires-else-height_of-2 g c =
+    let gt : ht c.args.nodes.now c.pick-outer.result < ht c.args.nodes.now c.pick-inner.result = omega (arith, c.height_of.ensures, c.height_of-2.ensures, c.if-height_of.false) in
     let t = (stage _ _ _ _ _ _ _ _ _ _ _ c.requires.4 _ c.index-nodes-heavy.is c.pick-outer.ensures c.pick-inner.ensures) in
     let d = inner-parts _ _ _ _ _ _ _ _ _ _ _ t gt _ _ _ c.index-nodes-inner.is c.pick-first.ensures c.pick-second.ensures in
-    double-ready-2 _ _ _ _ _ _ _ _ _ _ _ t gt _ _ d _ c.join-else-height-of.ensures
+    double-ready-2 _ _ _ _ _ _ _ _ _ _ _ t gt _ _ d _ c.join-else-height_of.ensures
 
-pub join-requires-else-height-of-3 : goal.join-requires-else-height-of-3
-join-requires-else-height-of-3 g c =
-    let gt : ht c.args.nodes.now c.pick-outer.result < ht c.args.nodes.now c.pick-inner.result = omega (arith, c.height-of.ensures, c.height-of-2.ensures, c.if-height-of.false) in
+pub join-requires-else-height_of-3 : goal.join-requires-else-height_of-3
+join-requires-else-height_of-3 g c =
+    let gt : ht c.args.nodes.now c.pick-outer.result < ht c.args.nodes.now c.pick-inner.result = omega (arith, c.height_of.ensures, c.height_of-2.ensures, c.if-height_of.false) in
     let t = (stage _ _ _ _ _ _ _ _ _ _ _ c.requires.4 _ c.index-nodes-heavy.is c.pick-outer.ensures c.pick-inner.ensures) in
     let d = inner-parts _ _ _ _ _ _ _ _ _ _ _ t gt _ _ _ c.index-nodes-inner.is c.pick-first.ensures c.pick-second.ensures in
-    double-ready-3 _ _ _ _ _ _ _ _ _ _ _ t gt _ _ d _ c.join-else-height-of.ensures _ c.join-else-height-of-2.ensures
+    double-ready-3 _ _ _ _ _ _ _ _ _ _ _ t gt _ _ d _ c.join-else-height_of.ensures _ c.join-else-height_of-2.ensures
 
-pub returns-then-height-of : goal.returns-then-height-of
-returns-then-height-of g c k v a b l =
-    let le : ht c.args.nodes.now c.pick-inner.result ≤ ht c.args.nodes.now c.pick-outer.result = omega (arith, c.height-of.ensures, c.height-of-2.ensures, c.if-height-of.true) in
+pub returns-then-height_of : goal.returns-then-height_of
+returns-then-height_of g c k v a b l =
+    let le : ht c.args.nodes.now c.pick-inner.result ≤ ht c.args.nodes.now c.pick-outer.result = omega (arith, c.height_of.ensures, c.height_of-2.ensures, c.if-height_of.true) in
     let t = (stage _ _ _ _ _ _ _ _ _ _ _ l _ c.index-nodes-heavy.is c.pick-outer.ensures c.pick-inner.ensures) in
-    single-made _ _ _ _ _ _ _ _ _ _ _ t _ c.join.ensures _ c.join-then-height-of.ensures le
+    single-made _ _ _ _ _ _ _ _ _ _ _ t _ c.join.ensures _ c.join-then-height_of.ensures le
 
-pub returns-else-height-of : goal.returns-else-height-of
-returns-else-height-of g c k v a b l =
-    let gt : ht c.args.nodes.now c.pick-outer.result < ht c.args.nodes.now c.pick-inner.result = omega (arith, c.height-of.ensures, c.height-of-2.ensures, c.if-height-of.false) in
+pub returns-else-height_of : goal.returns-else-height_of
+returns-else-height_of g c k v a b l =
+    let gt : ht c.args.nodes.now c.pick-outer.result < ht c.args.nodes.now c.pick-inner.result = omega (arith, c.height_of.ensures, c.height_of-2.ensures, c.if-height_of.false) in
     let t = (stage _ _ _ _ _ _ _ _ _ _ _ l _ c.index-nodes-heavy.is c.pick-outer.ensures c.pick-inner.ensures) in
     let d = inner-parts _ _ _ _ _ _ _ _ _ _ _ t gt _ _ _ c.index-nodes-inner.is c.pick-first.ensures c.pick-second.ensures in
-    double-made _ _ _ _ _ _ _ _ _ _ _ t gt _ _ d _ c.join-else-height-of.ensures _ c.join-else-height-of-2.ensures _ c.join-else-height-of-3.ensures
+    double-made _ _ _ _ _ _ _ _ _ _ _ t gt _ _ d _ c.join-else-height_of.ensures _ c.join-else-height_of-2.ensures _ c.join-else-height_of-3.ensures

@@ -9,16 +9,16 @@ returns-in-Ok g c = (refl, inl c.in-Ok.ensures.0)
 pub returns-then-free-eq-NIL : goal.returns-then-free-eq-NIL
 returns-then-free-eq-NIL g c = (refl, inr (full _ _ _ _ c.requires c.if-free-eq-NIL.true))
 
-pub offset-bounds-nodes-free : goal.offset-bounds-nodes-free
-offset-bounds-nodes-free g c =
+pub offset_bounds-nodes-free : goal.offset_bounds-nodes-free
+offset_bounds-nodes-free g c =
     let h : c.args.free < length c.args.nodes.now = (room _ _ _ _ c.requires c.if-free-eq-NIL.false).within in
     search rules
 
 pub bounds-nodes-free : goal.bounds-nodes-free
 bounds-nodes-free g c = (room _ _ _ _ c.requires c.if-free-eq-NIL.false).within
 
-pub offset-bounds-nodes-free-2 : goal.offset-bounds-nodes-free-2
-offset-bounds-nodes-free-2 g c =
+pub offset_bounds-nodes-free-2 : goal.offset_bounds-nodes-free-2
+offset_bounds-nodes-free-2 g c =
     let h : c.args.free < length c.args.nodes.now = (room _ _ _ _ c.requires c.if-free-eq-NIL.false).within in
     search rules
 

@@ -2,8 +2,8 @@ use Rattle.std.proofs.Common.{◌<◌, length, arith, rules}
 use Rattle.ordered_map.proofs.Excises.{here_in, excised-leaf, right-stands, least-in, place_in, mend-it, excised-node}
 use Rattle.ordered_map.proofs.excise.excise.Goals as goal
 
-pub offset-bounds-nodes-place : goal.offset-bounds-nodes-place
-offset-bounds-nodes-place g c =
+pub offset_bounds-nodes-place : goal.offset_bounds-nodes-place
+offset_bounds-nodes-place g c =
     let h : c.args.place < length c.args.nodes.now = here_in _ _ _ _ _ _ c.requires.4 in
     search rules
 
@@ -13,40 +13,40 @@ bounds-nodes-place g c = here_in _ _ _ _ _ _ c.requires.4
 pub returns-then-old : goal.returns-then-old
 returns-then-old g c k v l r s = excised-leaf _ _ k v l r s _ c.index-nodes-place.is c.if-old.true
 
-pub pop-least-least-requires : goal.pop-least-least-requires
-pop-least-least-requires g c = (c.requires.3, right-stands _ _ _ _ _ _ c.requires.4 _ c.index-nodes-place.is c.if-old.false)
+pub pop_least-least-requires : goal.pop_least-least-requires
+pop_least-least-requires g c = (c.requires.3, right-stands _ _ _ _ _ _ c.requires.4 _ c.index-nodes-place.is c.if-old.false)
 
 pub bounds-nodes-least : goal.bounds-nodes-least
 bounds-nodes-least g c =
     let s = right-stands _ _ _ _ _ _ c.requires.4 _ c.index-nodes-place.is c.if-old.false in
-    least-in _ _ _ _ _ _ c.requires.4 _ c.index-nodes-place.is c.if-old.false _ _ _ (c.pop-least-least.ensures _ s)
+    least-in _ _ _ _ _ _ c.requires.4 _ c.index-nodes-place.is c.if-old.false _ _ _ (c.pop_least-least.ensures _ s)
 
-pub offset-bounds-nodes-least : goal.offset-bounds-nodes-least
-offset-bounds-nodes-least g c =
+pub offset_bounds-nodes-least : goal.offset_bounds-nodes-least
+offset_bounds-nodes-least g c =
     let s = right-stands _ _ _ _ _ _ c.requires.4 _ c.index-nodes-place.is c.if-old.false in
-    let i = least-in _ _ _ _ _ _ c.requires.4 _ c.index-nodes-place.is c.if-old.false _ _ _ (c.pop-least-least.ensures _ s) in
-    let h : c.pop-least-least.result.0 < length c.args.nodes.now = omega (arith, (c.pop-least-least.ensures _ s).long) in
+    let i = least-in _ _ _ _ _ _ c.requires.4 _ c.index-nodes-place.is c.if-old.false _ _ _ (c.pop_least-least.ensures _ s) in
+    let h : c.pop_least-least.result.0 < length c.args.nodes.now = omega (arith, (c.pop_least-least.ensures _ s).long) in
     search rules
 
 pub bounds-nodes-place-2 : goal.bounds-nodes-place-2
 bounds-nodes-place-2 g c =
     let s = right-stands _ _ _ _ _ _ c.requires.4 _ c.index-nodes-place.is c.if-old.false in
-    place_in _ _ _ _ _ _ c.requires.4 _ c.index-nodes-place.is c.if-old.false _ _ _ (c.pop-least-least.ensures _ s)
+    place_in _ _ _ _ _ _ c.requires.4 _ c.index-nodes-place.is c.if-old.false _ _ _ (c.pop_least-least.ensures _ s)
 
-pub offset-bounds-nodes-place-2 : goal.offset-bounds-nodes-place-2
-offset-bounds-nodes-place-2 g c =
+pub offset_bounds-nodes-place-2 : goal.offset_bounds-nodes-place-2
+offset_bounds-nodes-place-2 g c =
     let h : c.args.place < length c.args.nodes.now = here_in _ _ _ _ _ _ c.requires.4 in
     search rules
 
 pub mend-top-requires : goal.mend-top-requires
 mend-top-requires g c =
     let s = right-stands _ _ _ _ _ _ c.requires.4 _ c.index-nodes-place.is c.if-old.false in
-    let o = c.pop-least-least.ensures _ s in
+    let o = c.pop_least-least.ensures _ s in
     (o.key, o.value, o.rest, c.requires.2, mend-it _ _ _ _ _ _ c.requires.4 _ c.index-nodes-place.is c.if-old.false _ _ _ o _ c.index-nodes-least.is)
 
 pub returns : goal.returns
 returns g c k v l r t =
     let s = right-stands _ _ k v l r t _ c.index-nodes-place.is c.if-old.false in
-    let o = c.pop-least-least.ensures _ s in
+    let o = c.pop_least-least.ensures _ s in
     excised-node _ _ k v l r t _ c.index-nodes-place.is c.if-old.false _ _ _ o _ c.index-nodes-least.is _ _
     (c.mend-top.ensures _ _ _ _ (mend-it _ _ k v l r t _ c.index-nodes-place.is c.if-old.false _ _ _ o _ c.index-nodes-least.is))

@@ -5,8 +5,8 @@ use Rattle.ordered_map.proofs.least.leftmost.Goals as goal
 pub loop-record-init : goal.loop-record-init
 loop-record-init g c t s = left-none _ _ t s _
 
-pub overflow-cast-record : goal.overflow-cast-record
-overflow-cast-record g c =
+pub overflow_cast-record : goal.overflow_cast-record
+overflow_cast-record g c =
     let long : 14 ≤ length c.loop-record.path = omega (arith, c.requires.1, c.loop-record.auto.path) in
     let w = left-turn _ _ c.requires.0.0 c.requires.0.1 _ _ _ long (c.loop-record.invariant c.requires.0.0 c.requires.0.1) in
     let h = w.0 in
@@ -19,8 +19,8 @@ bounds-nodes-at g c =
     let w = left-turn _ _ c.requires.0.0 c.requires.0.1 _ _ _ long (c.loop-record.invariant c.requires.0.0 c.requires.0.1) in
     w.0
 
-pub offset-bounds-nodes-at : goal.offset-bounds-nodes-at
-offset-bounds-nodes-at g c =
+pub offset_bounds-nodes-at : goal.offset_bounds-nodes-at
+offset_bounds-nodes-at g c =
     let long : 14 ≤ length c.loop-record.path = omega (arith, c.requires.1, c.loop-record.auto.path) in
     let w = left-turn _ _ c.requires.0.0 c.requires.0.1 _ _ _ long (c.loop-record.invariant c.requires.0.0 c.requires.0.1) in
     let h : c.loop-record.at < length c.args.nodes.now = w.0 in
@@ -31,8 +31,8 @@ returns-then-record g c t s =
     let long : 14 ≤ length c.loop-record.path = omega (arith, c.requires.1, c.loop-record.auto.path) in
     ((left-turn _ _ t s _ _ _ long (c.loop-record.invariant t s)).1 _ c.index-nodes-at.is).0 c.if-record.true
 
-pub offset-bounds-path-depth : goal.offset-bounds-path-depth
-offset-bounds-path-depth g c =
+pub offset_bounds-path-depth : goal.offset_bounds-path-depth
+offset_bounds-path-depth g c =
     let long : 14 ≤ length c.loop-record.path = omega (arith, c.requires.1, c.loop-record.auto.path) in
     let w = left-turn _ _ c.requires.0.0 c.requires.0.1 _ _ _ long (c.loop-record.invariant c.requires.0.0 c.requires.0.1) in
     let d = (w.1 _ c.index-nodes-at.is).1 c.if-record.false in
@@ -47,8 +47,8 @@ bounds-path-depth g c =
     let h = d.0 in
     omega arith
 
-pub overflow-add-depth : goal.overflow-add-depth
-overflow-add-depth g c =
+pub overflow_add-depth : goal.overflow_add-depth
+overflow_add-depth g c =
     let long : 14 ≤ length c.loop-record.path = omega (arith, c.requires.1, c.loop-record.auto.path) in
     let w = left-turn _ _ c.requires.0.0 c.requires.0.1 _ _ _ long (c.loop-record.invariant c.requires.0.0 c.requires.0.1) in
     let d = (w.1 _ c.index-nodes-at.is).1 c.if-record.false in

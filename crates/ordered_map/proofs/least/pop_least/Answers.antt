@@ -3,8 +3,8 @@ use Rattle.ordered_map.specs.Tree.{height}
 use Rattle.ordered_map.proofs.Leasts.{least-in, least-rising, popped}
 use Rattle.ordered_map.proofs.least.pop_least.Goals as goal
 
-pub offset-bounds-nodes-place : goal.offset-bounds-nodes-place
-offset-bounds-nodes-place g c =
+pub offset_bounds-nodes-place : goal.offset_bounds-nodes-place
+offset_bounds-nodes-place g c =
     let h : c.leftmost-depth.result.1 < length c.args.nodes.now = least-in _ _ c.requires.0 c.requires.1 _ _ _ (c.leftmost-depth.ensures c.requires.0 c.requires.1) in
     search rules
 

@@ -9,8 +9,8 @@ loop-at-init g c =
     let s = c.requires.0.1 in
     falls_none _ _ _ _ _ (s.2.rooted ∙ ap top (sym (rep-tree _ _ _ _ s.0 s.1 s.2)))
 
-pub overflow-cast-record : goal.overflow-cast-record
-overflow-cast-record g c =
+pub overflow_cast-record : goal.overflow_cast-record
+overflow_cast-record g c =
     let r = ground _ _ _ _ c.requires.0.1 in
     let long : 14 ≤ length c.loop-at.path = omega (arith, c.requires.1, c.loop-at.auto.path) in
     let h = (fall _ g.K.Key.lawful _ _ _ _ _ _ r c.loop-at.invariant long c.loop-at-test.true).0 in
@@ -23,15 +23,15 @@ bounds-nodes-at g c =
     let long : 14 ≤ length c.loop-at.path = omega (arith, c.requires.1, c.loop-at.auto.path) in
     (fall _ g.K.Key.lawful _ _ _ _ _ _ r c.loop-at.invariant long c.loop-at-test.true).0
 
-pub offset-bounds-nodes-at : goal.offset-bounds-nodes-at
-offset-bounds-nodes-at g c =
+pub offset_bounds-nodes-at : goal.offset_bounds-nodes-at
+offset_bounds-nodes-at g c =
     let r = ground _ _ _ _ c.requires.0.1 in
     let long : 14 ≤ length c.loop-at.path = omega (arith, c.requires.1, c.loop-at.auto.path) in
     let h : c.loop-at.at < length c.args.nodes.now = (fall _ g.K.Key.lawful _ _ _ _ _ _ r c.loop-at.invariant long c.loop-at-test.true).0 in
     search rules
 
-pub offset-bounds-path-depth : goal.offset-bounds-path-depth
-offset-bounds-path-depth g c =
+pub offset_bounds-path-depth : goal.offset_bounds-path-depth
+offset_bounds-path-depth g c =
     let r = ground _ _ _ _ c.requires.0.1 in
     let long : 14 ≤ length c.loop-at.path = omega (arith, c.requires.1, c.loop-at.auto.path) in
     let h = (fall _ g.K.Key.lawful _ _ _ _ _ _ r c.loop-at.invariant long c.loop-at-test.true).1 in
@@ -44,8 +44,8 @@ bounds-path-depth g c =
     let h = (fall _ g.K.Key.lawful _ _ _ _ _ _ r c.loop-at.invariant long c.loop-at-test.true).1 in
     omega arith
 
-pub overflow-add-depth : goal.overflow-add-depth
-overflow-add-depth g c =
+pub overflow_add-depth : goal.overflow_add-depth
+overflow_add-depth g c =
     let r = ground _ _ _ _ c.requires.0.1 in
     let long : 14 ≤ length c.loop-at.path = omega (arith, c.requires.1, c.loop-at.auto.path) in
     let h = (fall _ g.K.Key.lawful _ _ _ _ _ _ r c.loop-at.invariant long c.loop-at-test.true).1 in
@@ -70,8 +70,8 @@ returns-in-Equal g c =
     let long : 14 ≤ length c.loop-at.path = omega (arith, c.requires.1, c.loop-at.auto.path) in
     (fall _ g.K.Key.lawful _ _ _ _ _ _ r c.loop-at.invariant long c.loop-at-test.true).2 _ _ c.index-nodes-at.is c.in-Equal.ensures
 
-pub offset-bounds-path-depth-in-Greater : goal.offset-bounds-path-depth-in-Greater
-offset-bounds-path-depth-in-Greater g c =
+pub offset_bounds-path-depth-in-Greater : goal.offset_bounds-path-depth-in-Greater
+offset_bounds-path-depth-in-Greater g c =
     let r = ground _ _ _ _ c.requires.0.1 in
     let long : 14 ≤ length c.loop-at.path = omega (arith, c.requires.1, c.loop-at.auto.path) in
     let h = (fall _ g.K.Key.lawful _ _ _ _ _ _ r c.loop-at.invariant long c.loop-at-test.true).1 in
@@ -84,8 +84,8 @@ bounds-path-depth-in-Greater g c =
     let h = (fall _ g.K.Key.lawful _ _ _ _ _ _ r c.loop-at.invariant long c.loop-at-test.true).1 in
     omega arith
 
-pub overflow-add-depth-in-Greater : goal.overflow-add-depth-in-Greater
-overflow-add-depth-in-Greater g c =
+pub overflow_add-depth-in-Greater : goal.overflow_add-depth-in-Greater
+overflow_add-depth-in-Greater g c =
     let r = ground _ _ _ _ c.requires.0.1 in
     let long : 14 ≤ length c.loop-at.path = omega (arith, c.requires.1, c.loop-at.auto.path) in
     let h = (fall _ g.K.Key.lawful _ _ _ _ _ _ r c.loop-at.invariant long c.loop-at-test.true).1 in

@@ -5,8 +5,8 @@ use Rattle.ordered_map.proofs.rise.rise.Goals as goal
 pub loop-i-init : goal.loop-i-init
 loop-i-init g c fs t h r = begin _ _ _ _ fs t h r
 
-pub offset-bounds-path-i : goal.offset-bounds-path-i
-offset-bounds-path-i g c =
+pub offset_bounds-path-i : goal.offset_bounds-path-i
+offset_bounds-path-i g c =
     let w = onward _ _ _ _ _ _ _ (c.loop-i.invariant _ _ _ c.requires.3) c.loop-i-test.true in
     let h : c.loop-i.i - 1 < length c.args.path.now = step_in _ _ _ _ _ _ _ w in
     search rules

@@ -5,16 +5,16 @@ use Rattle.ordered_map.proofs.search.seek.Goals as goal
 pub loop-at-init : goal.loop-at-init
 loop-at-init g c = start g.K.Key.cmp c.args.nodes.now c.args.root (c.requires.0) c.requires.1 c.args.key.now
 
-pub offset-bounds-nodes-at : goal.offset-bounds-nodes-at
-offset-bounds-nodes-at g c =
+pub offset_bounds-nodes-at : goal.offset_bounds-nodes-at
+offset_bounds-nodes-at g c =
     let h : c.loop-at.at < length c.args.nodes.now = (turn _ _ _ _ _ _ c.loop-at.invariant c.loop-at-test.true).0 in
     search rules
 
 pub bounds-nodes-at : goal.bounds-nodes-at
 bounds-nodes-at g c = (turn _ _ _ _ _ _ c.loop-at.invariant c.loop-at-test.true).0
 
-pub overflow-add-count : goal.overflow-add-count
-overflow-add-count g c =
+pub overflow_add-count : goal.overflow_add-count
+overflow_add-count g c =
     let h = sound-steps g.K.Key.cmp _ _ _ c.requires.1 c.args.key.now in
     let m = more-steps _ _ _ _ _ _ c.loop-at.invariant in
     search rules
@@ -28,8 +28,8 @@ loop-at-smaller-in-Less g c =
 pub loop-at-preserved-in-Less : goal.loop-at-preserved-in-Less
 loop-at-preserved-in-Less g c = (turn _ _ _ _ _ _ c.loop-at.invariant c.loop-at-test.true).1 _ _ c.index-nodes-at.is c.in-Less.ensures
 
-pub overflow-cast-record : goal.overflow-cast-record
-overflow-cast-record g c =
+pub overflow_cast-record : goal.overflow_cast-record
+overflow_cast-record g c =
     let h = (turn _ _ _ _ _ _ c.loop-at.invariant c.loop-at-test.true).0 in
     let s = c.requires.1.2.small in
     record { fits = omega arith }

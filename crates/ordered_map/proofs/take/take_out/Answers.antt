@@ -28,8 +28,8 @@ bounds-nodes-freed g c =
     let rl = (c.rise-top.ensures _ _ _ (rising _ _ _ _ _ c.requires _ _ _ d _ _ _ e)).long in
     omega arith
 
-pub offset-bounds-nodes-freed : goal.offset-bounds-nodes-freed
-offset-bounds-nodes-freed g c =
+pub offset_bounds-nodes-freed : goal.offset_bounds-nodes-freed
+offset_bounds-nodes-freed g c =
     let d = c.in-Ok.ensures.1 in
     let e = c.excise-child.ensures _ _ _ _ (standing _ _ _ _ _ c.requires _ _ _ d) in
     let h : c.excise-child.result.1 < length c.args.nodes.now = freed-in _ _ _ _ _ c.requires _ _ _ d _ _ _ e in
@@ -44,8 +44,8 @@ bounds-nodes-freed-2 g c =
     let rl = (c.rise-top.ensures _ _ _ (rising _ _ _ _ _ c.requires _ _ _ d _ _ _ e)).long in
     omega arith
 
-pub offset-bounds-nodes-freed-2 : goal.offset-bounds-nodes-freed-2
-offset-bounds-nodes-freed-2 g c =
+pub offset_bounds-nodes-freed-2 : goal.offset_bounds-nodes-freed-2
+offset_bounds-nodes-freed-2 g c =
     let d = c.in-Ok.ensures.1 in
     let e = c.excise-child.ensures _ _ _ _ (standing _ _ _ _ _ c.requires _ _ _ d) in
     let h : c.excise-child.result.1 < length c.args.nodes.now = freed-in _ _ _ _ _ c.requires _ _ _ d _ _ _ e in

@@ -5,7 +5,7 @@ pub returns : goal.returns
 returns c =
     record {
       put_holds_the_page = put_holds_the_page;
-      fetch-after-put-gives-the-page = fetch_after_put;
+      fetch_after_put_gives_the_page = fetch_after_put;
       emptied_holds_nothing = emptied_holds_nothing;
       other_slots_stay = other_slots_stay;
       sizes_stay = sizes_stay;

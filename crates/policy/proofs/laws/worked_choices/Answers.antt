@@ -27,4 +27,4 @@ by_l =
     }
 
 pub returns : goal.returns
-returns c = record { by-min-funding = by_m; by-lru = by_l }
+returns c = record { by_min_funding = by_m; by_lru = by_l }

@@ -8,8 +8,8 @@ pub returns : goal.returns
 unfolding page_at
 returns c =
     let s = c.args.self.now in
-    let copied : c.copy-from-slice.new.self ≡ page_at s.page s.bytes.now c.args.slot =
-    c.copy-from-slice.ensures.after ∙ ap (λ n. take n (drop (c.args.slot * s.page) s.bytes.now)) (omega arith) in
+    let copied : c.copy_from_slice.new.self ≡ page_at s.page s.bytes.now c.args.slot =
+    c.copy_from_slice.ensures.after ∙ ap (λ n. take n (drop (c.args.slot * s.page) s.bytes.now)) (omega arith) in
     record {
       place = copied;
       page = full_slot s.page (memory_of s) c.args.slot c.requires.slot c.requires.full ∙ ap Some (sym copied);

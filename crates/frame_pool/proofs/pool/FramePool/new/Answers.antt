@@ -18,4 +18,4 @@ returns c =
     same_lists _ _ (l ∙ sym r)
     (λ k d h. get_or_default c.loop-m.marks k d 0 h ∙ c.loop-m.invariant k (omega arith) ∙ sym (get_or-replicate n k 0 d (omega arith))) in
     let memory = ap (λ ms. record { bytes = c.args.bytes.now; marks = ms }) zeros in
-    record { starts-empty = ap (pool_of c.args.page) memory ∙ pool_starts c.args.page n c.args.bytes.now; keeps-all-bytes = memory }
+    record { starts_empty = ap (pool_of c.args.page) memory ∙ pool_starts c.args.page n c.args.bytes.now; keeps_all_bytes = memory }

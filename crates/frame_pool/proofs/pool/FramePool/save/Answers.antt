@@ -14,8 +14,8 @@ returns c =
     let i = c.args.slot in
     let ends = place_ends i (length s.marks.now) p c.requires.slot in
     let fits : i * p + p ≤ length s.bytes.now = omega (arith, s.whole) in
-    let written : put_mid (i * p) (i * p + p - i * p) s.bytes.now c.copy-from-slice.new.self ≡ with_page_at p s.bytes.now i c.args.page.now =
-    written_is p i _ s.bytes.now c.copy-from-slice.new.self (omega arith) ∙ ap (with_page_at p s.bytes.now i) c.copy-from-slice.ensures.after in
+    let written : put_mid (i * p) (i * p + p - i * p) s.bytes.now c.copy_from_slice.new.self ≡ with_page_at p s.bytes.now i c.args.page.now =
+    written_is p i _ s.bytes.now c.copy_from_slice.new.self (omega arith) ∙ ap (with_page_at p s.bytes.now i) c.copy_from_slice.ensures.after in
     let memory = ap (λ bs. record { bytes = bs; marks = set s.marks.now i 1 }) written in
     record {
       memory = memory;

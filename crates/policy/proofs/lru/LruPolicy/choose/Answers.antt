@@ -5,4 +5,4 @@ use Rattle.policy.proofs.lru.LruPolicy.choose.Goals as goal
 
 pub returns : goal.returns
 returns c =
-    record { choice = search rules; chosen-has-the-oldest-page = λ k e. oldest_page (rows_of c.args.rows.now) k (search rules) }
+    record { choice = search rules; chosen_has_the_oldest_page = λ k e. oldest_page (rows_of c.args.rows.now) k (search rules) }

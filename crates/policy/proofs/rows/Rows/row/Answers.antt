@@ -9,10 +9,10 @@ returns-then-guest-ge8 c =
     let s = c.args.self.now in
     record {
       reads = c.absent.ensures ∙ sym (get_or_past s.rows c.args.guest absent_row (omega (arith, s.eight)));
-      keeps-the-limits = subst Limits (sym c.absent.ensures) (limits_of absent_row refl);
+      keeps_the_limits = subst Limits (sym c.absent.ensures) (limits_of absent_row refl);
     }
 
 pub returns : goal.returns
 returns c =
     let s = c.args.self.now in
-    record { reads = refl; keeps-the-limits = limits_at s.rows c.args.guest s.within }
+    record { reads = refl; keeps_the_limits = limits_at s.rows c.args.guest s.within }

@@ -10,12 +10,24 @@ use Rattle.swap_log.proofs.Made.{nothing_within, nothing_once}
 use Rattle.swap_log.proofs.Positions.{live_within, live_once, few_live, log_live}
 use Rattle.swap_log.proofs.log.SwapLog.compact.Goals as goal
 
-pub invariant-of-self : goal.invariant-of-self
-invariant-of-self c =
+pub invariant_of-self : goal.invariant_of-self
+invariant_of-self c =
     let s = c.args.self.now in
     let within = nothing_within s.count s.page s.numbers.now s.bytes.now in
     let once = nothing_once s.page s.numbers.now s.bytes.now in
-    (s.sized, (s.some, (s.few, (s.room, (s.most, (s.whole, (omega arith, (s.bounded, (within, (once, (few_live s.count (positions_in s.page s.numbers.now s.bytes.now 0) within once, tt)))))))))))
+    record {
+      sized = s.sized;
+      some = s.some;
+      few = s.few;
+      room = s.room;
+      most = s.most;
+      whole = s.whole;
+      used = omega arith;
+      bounded = s.bounded;
+      within = within;
+      once = once;
+      lean = few_live s.count (positions_in s.page s.numbers.now s.bytes.now 0) within once;
+    }
 
 pub loop-at-init : goal.loop-at-init
 loop-at-init c = let s = c.args.self.now in (refl, refl, refl, squeeze_none s.page s.numbers.now s.bytes.now)
@@ -31,8 +43,8 @@ loop-at-preserved-then-number c =
     let v = c.loop-at.invariant in
     (v.0, v.1, v.2, squeeze_dead _ _ _ _ _ _ _ v.3 c.if-number.true)
 
-pub copy-page-requires : goal.copy-page-requires
-copy-page-requires c =
+pub copy_page-requires : goal.copy_page-requires
+copy_page-requires c =
     let s = c.args.self.now in
     let t = c.loop-at.self in
     let v = c.loop-at.invariant in
@@ -40,19 +52,31 @@ copy-page-requires c =
     let ends = place_ends c.loop-at.at (length s.numbers.now) s.page inside in
     record { order = v.3.shorter; fits = omega (arith, ends, s.whole, v.3.bytes_length) }
 
-pub invariant-of-self-in-loop-at : goal.invariant-of-self-in-loop-at
-invariant-of-self-in-loop-at c =
+pub invariant_of-self-in-loop-at : goal.invariant_of-self-in-loop-at
+invariant_of-self-in-loop-at c =
     let p = c.args.self.now.page in
     let t = c.loop-at.self in
     let bs = t.bytes.now in
     let l = length-set t.numbers.now c.loop-at.front (get_or t.numbers.now c.loop-at.at 0) in
-    let bounded = subst Bytes (sym c.copy-page.ensures) (bytes_with_page p c.loop-at.front bs (page_at p bs c.loop-at.at) t.bounded (bytes_page p c.loop-at.at bs t.bounded)) in
+    let bounded = subst Bytes (sym c.copy_page.ensures) (bytes_with_page p c.loop-at.front bs (page_at p bs c.loop-at.at) t.bounded (bytes_page p c.loop-at.at bs t.bounded)) in
     let empty = sym c.loop-at.invariant.2 in
     let ms = set t.numbers.now c.loop-at.front (get_or t.numbers.now c.loop-at.at 0) in
-    let cs = c.copy-page.new.bytes in
+    let cs = c.copy_page.new.bytes in
     let within = subst (λ e. Within t.count (positions_in t.page ms cs e)) empty (nothing_within t.count t.page ms cs) in
     let once = subst (λ e. Once (positions_in t.page ms cs e)) empty (nothing_once t.page ms cs) in
-    (t.sized, (t.some, (t.few, (omega (arith, l, t.room), (omega (arith, l, t.most), (c.copy-page.auto.bytes ∙ t.whole ∙ ap (λ n. n * t.page) (sym l), (omega (arith, l, t.used), (bounded, (within, (once, (few_live t.count (positions_in t.page ms cs t.end) within once, tt)))))))))))
+    record {
+      sized = t.sized;
+      some = t.some;
+      few = t.few;
+      room = omega (arith, l, t.room);
+      most = omega (arith, l, t.most);
+      whole = c.copy_page.auto.bytes ∙ t.whole ∙ ap (λ n. n * t.page) (sym l);
+      used = omega (arith, l, t.used);
+      bounded = bounded;
+      within = within;
+      once = once;
+      lean = few_live t.count (positions_in t.page ms cs t.end) within once;
+    }
 
 pub loop-at-preserved : goal.loop-at-preserved
 loop-at-preserved c =
@@ -62,10 +86,10 @@ loop-at-preserved c =
     let inside : c.loop-at.at < length s.numbers.now = omega (arith, s.used, c.loop-at-test.true) in
     let one = page_length c.loop-at.at (length s.numbers.now) s.page t.bytes.now inside (v.3.bytes_length ∙ s.whole) in
     let next = squeeze_live s.page s.numbers.now s.bytes.now t.numbers.now t.bytes.now c.loop-at.at c.loop-at.front v.3 inside s.whole one c.if-number.false in
-    (v.0, v.1, v.2, subst (λ cs. Squeezed s.page s.numbers.now s.bytes.now (set t.numbers.now c.loop-at.front (get_or t.numbers.now c.loop-at.at 0)) cs (c.loop-at.at + 1) (c.loop-at.front + 1)) (sym c.copy-page.ensures) next)
+    (v.0, v.1, v.2, subst (λ cs. Squeezed s.page s.numbers.now s.bytes.now (set t.numbers.now c.loop-at.front (get_or t.numbers.now c.loop-at.at 0)) cs (c.loop-at.at + 1) (c.loop-at.front + 1)) (sym c.copy_page.ensures) next)
 
-pub invariant-of-self-2 : goal.invariant-of-self-2
-invariant-of-self-2 c =
+pub invariant_of-self-2 : goal.invariant_of-self-2
+invariant_of-self-2 c =
     let s = c.args.self.now in
     let t = c.loop-at.self in
     let v = c.loop-at.invariant in
@@ -75,7 +99,19 @@ invariant-of-self-2 c =
     let within = subst (Within t.count) (sym e) kept in
     let once = subst Once (sym e) (live_once (positions_of s) s.once) in
     let used : c.loop-at.front ≤ length t.numbers.now = omega (arith, v.3.shorter, v.3.numbers_length, s.used, c.loop-at.auto.at-end) in
-    (t.sized, (t.some, (t.few, (t.room, (t.most, (t.whole, (used, (t.bounded, (within, (once, (few_live t.count (positions_in t.page t.numbers.now t.bytes.now c.loop-at.front) within once, tt)))))))))))
+    record {
+      sized = t.sized;
+      some = t.some;
+      few = t.few;
+      room = t.room;
+      most = t.most;
+      whole = t.whole;
+      used = used;
+      bounded = t.bounded;
+      within = within;
+      once = once;
+      lean = few_live t.count (positions_in t.page t.numbers.now t.bytes.now c.loop-at.front) within once;
+    }
 
 pub returns : goal.returns
 returns c =

@@ -9,8 +9,8 @@ use Rattle.swap_log.proofs.Founds.{slot_is, slot_is_empty, once_here}
 use Rattle.swap_log.proofs.Positions.{killed_same, killed_within, killed_once, few_live, log_killed}
 use Rattle.swap_log.proofs.log.SwapLog.kill.Goals as goal
 
-pub invariant-of-self : goal.invariant-of-self
-invariant-of-self c =
+pub invariant_of-self : goal.invariant_of-self
+invariant_of-self c =
     let s = c.args.self.now in
     let q = c.args.slot in
     let k = c.in-Some.position in
@@ -18,7 +18,19 @@ invariant-of-self c =
     let e = found_killed s.page s.numbers.now s.bytes.now s.end q k s.used c.in-Some.ensures (once_here s q c.requires) in
     let within = subst (Within s.count) (sym e) (killed_within s.count q (positions_of s) c.requires s.within) in
     let once = subst Once (sym e) (killed_once q (positions_of s) s.once) in
-    (s.sized, (s.some, (s.few, (omega (arith, s.room), (omega (arith, s.most), (s.whole ∙ ap (λ n. n * s.page) (sym l), (omega (arith, s.used), (s.bounded, (within, (once, (few_live s.count (positions_in s.page (set s.numbers.now k 65535) s.bytes.now s.end) within once, tt)))))))))))
+    record {
+      sized = s.sized;
+      some = s.some;
+      few = s.few;
+      room = omega (arith, s.room);
+      most = omega (arith, s.most);
+      whole = s.whole ∙ ap (λ n. n * s.page) (sym l);
+      used = omega (arith, s.used);
+      bounded = s.bounded;
+      within = within;
+      once = once;
+      lean = few_live s.count (positions_in s.page (set s.numbers.now k 65535) s.bytes.now s.end) within once;
+    }
 
 pub returns-in-Some : goal.returns-in-Some
 returns-in-Some c =

@@ -9,8 +9,8 @@ returns-in-Some c =
     let s = c.args.self.now in
     let k = c.in-Some.position in
     let e = slot_is s c.args.slot k c.requires.slot c.in-Some.ensures in
-    let copied : c.copy-from-slice.new.self ≡ page_at s.page s.bytes.now k =
-    c.copy-from-slice.ensures.after ∙ ap (λ n. take n (drop (k * s.page) s.bytes.now)) (omega arith) in
+    let copied : c.copy_from_slice.new.self ≡ page_at s.page s.bytes.now k =
+    c.copy_from_slice.ensures.after ∙ ap (λ n. take n (drop (k * s.page) s.bytes.now)) (omega arith) in
     record { full = rw e; page = rw e copied }
 
 pub returns-in-None : goal.returns-in-None

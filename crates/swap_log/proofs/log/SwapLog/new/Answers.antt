@@ -5,20 +5,32 @@ use Rattle.swap_log.proofs.Positions.{few_live}
 use Rattle.swap_log.proofs.Made.{accepted, nothing_within, nothing_once, log_starts}
 use Rattle.swap_log.proofs.log.SwapLog.new.Goals as goal
 
-pub invariant-of-result : goal.invariant-of-result
-invariant-of-result c =
+pub invariant_of-result : goal.invariant_of-result
+invariant_of-result c =
     let p = c.args.page in
     let ns = c.args.numbers.now in
     let bs = c.args.bytes.now in
     let a = accepted p c.args.count c.args.positions (length ns) (length bs) c.requires in
     let within = nothing_within c.args.count p ns bs in
     let once = nothing_once p ns bs in
-    (a.sized, (a.some, (a.few, (a.room, (a.most, (a.whole, (omega arith, (c.tell-bytes.ensures, (within, (once, (few_live c.args.count (positions_in p ns bs 0) within once, tt)))))))))))
+    record {
+      sized = a.sized;
+      some = a.some;
+      few = a.few;
+      room = a.room;
+      most = a.most;
+      whole = a.whole;
+      used = omega arith;
+      bounded = c.tell_bytes.ensures;
+      within = within;
+      once = once;
+      lean = few_live c.args.count (positions_in p ns bs 0) within once;
+    }
 
 pub returns : goal.returns
 returns c =
     record {
-      starts-empty = log_starts c.args.page c.args.count c.args.numbers.now c.args.bytes.now;
-      no-position-is-in-use = positions_none c.args.page c.args.numbers.now c.args.bytes.now;
-      keeps-the-memory = (refl, refl);
+      starts_empty = log_starts c.args.page c.args.count c.args.numbers.now c.args.bytes.now;
+      no_position_is_in_use = positions_none c.args.page c.args.numbers.now c.args.bytes.now;
+      keeps_the_memory = (refl, refl);
     }

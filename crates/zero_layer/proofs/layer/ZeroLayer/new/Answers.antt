@@ -6,8 +6,8 @@ pub returns : goal.returns
 returns g c =
     let s = g.S.PageStore.model c.args.below in
     record {
-      no-mark-is-set = refl;
-      stands-over-the-store-handed-in = refl;
-      pages-below-show-through = layer_starts s 2048;
-      marked-slots-are-empty-below = tidy_starts s 2048;
+      no_mark_is_set = refl;
+      stands_over_the_store_handed_in = refl;
+      pages_below_show_through = layer_starts s 2048;
+      marked_slots_are_empty_below = tidy_starts s 2048;
     }

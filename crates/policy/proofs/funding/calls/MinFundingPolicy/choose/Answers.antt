@@ -9,5 +9,5 @@ returns c =
     let v = c.args.rows.now in
     record {
       choice = search rules;
-      chosen-has-the-lowest-ratio = λ k e. lowest_ratio p.tax (rows_of v) k p.legal v.within (search rules);
+      chosen_has_the_lowest_ratio = λ k e. lowest_ratio p.tax (rows_of v) k p.legal v.within (search rules);
     }
