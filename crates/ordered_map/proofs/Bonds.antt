@@ -1,13 +1,13 @@
 -- Joining a record to two trees.
-use Rattle.std.proofs.Common.{◌≡◌, ℕ, zero, suc, ◌+◌, ◌<◌, ◌≤◌, max, Bool, true, false, cond, not, eqb, ◌⊎◌, List, [], ◌∷◌, ◌++◌, length, get_or, set, Some, None, Option, sym, refl, ap, ◌∙◌, subst, inl, inr, ⊎_elim, arith, length-set}
+use Rattle.std.proofs.Common.{◌≡◌, ℕ, ◌+◌, ◌<◌, ◌≤◌, max, Bool, true, false, cond, List, length, set, Some, refl, ap, ◌∙◌, arith, length-set}
 use Rattle.std.specs.List.{slice_get}
 use Rattle.std.proofs.lemmas.Option.{slice_get_past}
 use Rattle.std.proofs.lemmas.Bool.{eq-eqb, ne_eqb}
 use Rattle.ordered_map.specs.declared.node.Node.{Node}
-use Rattle.ordered_map.specs.Tree.{Tree, leaf, node, top, height, size, occ, one, entries, Balanced}
+use Rattle.ordered_map.specs.Tree.{Tree, leaf, node, top, height, size, occ, one, Balanced}
 use Rattle.ordered_map.specs.Table.{rec, Holds}
-use Rattle.ordered_map.specs.Edit.{height_in, ht, linked, Joined, bond, Loose, Like, Made, Glued, Opened}
-use Rattle.ordered_map.proofs.Nths.{nth_in, nth_is, nth_set_same, nth_set_other}
+use Rattle.ordered_map.specs.Edit.{height_in, ht, linked, Joined, bond, Loose, Glued, Opened}
+use Rattle.ordered_map.proofs.Nths.{nth_in, nth_set_same, nth_set_other}
 
 -- ---- places
 

@@ -1,10 +1,9 @@
 -- The chain of free places.
-use Rattle.std.proofs.Common.{◌≡◌, ℕ, zero, suc, ◌+◌, ◌-◌, ◌<◌, ◌≤◌, ◌⊎◌, List, [], ◌∷◌, ◌++◌, length, get_or, set, Some, None, Option, Ordering, sym, refl, ap, ◌∙◌, subst, inl, inr, ⊎_elim, arith, length-set}
-use Rattle.std.specs.List.{slice_get}
+use Rattle.std.proofs.Common.{◌≡◌, ℕ, ◌-◌, ◌<◌, ◌≤◌, List, [], ◌∷◌, length, set, Ordering, refl, ap, ◌∙◌, ⊎_elim, arith, length-set}
 use Rattle.std.proofs.lemmas.Bool.{cases_eq}
 use Rattle.ordered_map.specs.declared.node.Node.{Node}
-use Rattle.ordered_map.specs.Tree.{Tree, leaf, node, top, entries, one, occ}
-use Rattle.ordered_map.specs.Table.{rec, Rep, Kept, tree_of, pairs_of, first, Chained, occs, Linked}
+use Rattle.ordered_map.specs.Tree.{leaf, entries, one}
+use Rattle.ordered_map.specs.Table.{Rep, Kept, pairs_of, occs, Linked}
 use Rattle.ordered_map.proofs.Nths.{nth_set_same, nth_set_other}
 use Rattle.ordered_map.proofs.Bonds.{one_self, one_other}
 use Rattle.ordered_map.proofs.Lookups.{rep-tree}

@@ -1,18 +1,16 @@
 -- Entering a pair.
-use Rattle.std.proofs.Common.{◌≡◌, ℕ, zero, suc, ◌+◌, ◌-◌, ◌<◌, ◌≤◌, max, Bool, true, false, cond, not, ◌⊎◌, List, [], ◌∷◌, ◌++◌, length, get_or, set, is_some, Some, None, Option, Ordering, Less, Equal, Greater, sym, refl, ap, ◌∙◌, subst, inl, inr, ⊎_elim, append_assoc, append-nil, arith, length-append, length-set}
-use Rattle.std.specs.List.{slice_get, AllByRecursion as All}
-use Rattle.std.specs.Ordering.{ordering_reverse, match_ordering as by_order}
-use Rattle.std.proofs.ByRecursion.{All-append, All-weaker}
+use Rattle.std.proofs.Common.{◌≡◌, ℕ, ◌+◌, ◌<◌, List, [], ◌∷◌, ◌++◌, length, get_or, set, Some, None, Ordering, Less, Greater, sym, refl, ap, ◌∙◌, subst, arith, length-append, length-set}
+use Rattle.std.specs.List.{slice_get, AllByRecursion}
+use Rattle.std.specs.Ordering.{ordering_reverse}
 use Rattle.ordered_map.specs.declared.node.Node.{Node}
 use Rattle.ordered_map.specs.declared.node.Step.{Step}
 use Rattle.ordered_map.specs.Order.{Order}
-use Rattle.ordered_map.specs.Tree.{Tree, leaf, node, top, height, size, occ, one, entries, Balanced, Rises, value_at, find}
+use Rattle.ordered_map.specs.Tree.{Tree, leaf, node, height, size, occ, one, entries, Balanced, Rises, value_at}
 use Rattle.ordered_map.specs.Table.{rec, Holds, Rep, Kept, tree_of, pairs_of, first, Chained, occs}
-use Rattle.ordered_map.specs.Edit.{bond, Like}
-use Rattle.ordered_map.specs.Path.{Frame, fill, plug, OnPath, Framed, occ_frames, Fit, tall, before, after, Landed, Rising, Risen}
+use Rattle.ordered_map.specs.Path.{Frame, fill, plug, occ_frames, tall, before, after, Landed, Rising, Risen}
 use Rattle.ordered_map.specs.Enter.{put, Entered}
 use Rattle.ordered_map.proofs.Nths.{nth_in, nth_is, nth_set_same, nth_set_other}
-use Rattle.ordered_map.proofs.Bonds.{one_self, one_zero, one_other, size-bond}
+use Rattle.ordered_map.proofs.Bonds.{one_self, one_zero, size-bond}
 use Rattle.ordered_map.proofs.Lookups.{rep-tree, rep-low}
 use Rattle.ordered_map.proofs.Rises.{occ-plug, framed_kept}
 use Rattle.ordered_map.proofs.Falls.{holds_plug, height-plug, level_plug, entries-plug}
@@ -21,19 +19,19 @@ use Rattle.ordered_map.proofs.Sorted.{value-under, value-right}
 -- ---- lists
 
 module _ {K : Type 0} (c : K → K → Ordering) (k : K) (v : ℕ) where
-  put_under : (es : List (K × ℕ)) → All (λ e. c k e.0 ≡ Less) es → put c es k v ≡ (k, v) ∷ es
+  put_under : (es : List (K × ℕ)) → AllByRecursion (λ e. c k e.0 ≡ Less) es → put c es k v ≡ (k, v) ∷ es
   put_under [] h = refl
   put_under (e ∷ es) h = rw h.0 refl
 
-  pub put_is : (xs ys : List (K × ℕ)) → All (λ e. c k e.0 ≡ Greater) xs → All (λ e. c k e.0 ≡ Less) ys → put c (xs ++ ys) k v ≡ xs ++ (k, v) ∷ ys
+  pub put_is : (xs ys : List (K × ℕ)) → AllByRecursion (λ e. c k e.0 ≡ Greater) xs → AllByRecursion (λ e. c k e.0 ≡ Less) ys → put c (xs ++ ys) k v ≡ xs ++ (k, v) ∷ ys
   put_is [] ys o u = put_under ys u
   put_is (x ∷ xs) ys o u = rw o.0 (ap (λ es. x ∷ es) (put_is xs ys o.1 u))
 
-  all-mid : (P : K × ℕ → Type 0) (xs ys : List (K × ℕ)) → P (k, v) → All P (xs ++ ys) → All P (xs ++ (k, v) ∷ ys)
+  all-mid : (P : K × ℕ → Type 0) (xs ys : List (K × ℕ)) → P (k, v) → AllByRecursion P (xs ++ ys) → AllByRecursion P (xs ++ (k, v) ∷ ys)
   all-mid P [] ys p h = (p, h)
   all-mid P (x ∷ xs) ys p h = (h.0, all-mid P xs ys p h.1)
 
-  pub rises-put : Order c → (xs ys : List (K × ℕ)) → All (λ e. c k e.0 ≡ Greater) xs → All (λ e. c k e.0 ≡ Less) ys → Rises c (xs ++ ys) → Rises c (xs ++ (k, v) ∷ ys)
+  pub rises-put : Order c → (xs ys : List (K × ℕ)) → AllByRecursion (λ e. c k e.0 ≡ Greater) xs → AllByRecursion (λ e. c k e.0 ≡ Less) ys → Rises c (xs ++ ys) → Rises c (xs ++ (k, v) ∷ ys)
   rises-put w [] ys o u r = (u, r)
   rises-put w (x ∷ xs) ys o u r = (all-mid (λ d. c x.0 d.0 ≡ Less) xs ys (w.flip x.0 k ∙ ap ordering_reverse o.0) r.0, rises-put w xs ys o.1 u r.1)
 

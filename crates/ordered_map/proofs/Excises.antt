@@ -1,9 +1,9 @@
 -- Taking the root out of a tree.
-use Rattle.std.proofs.Common.{◌≡◌, ℕ, zero, suc, ◌+◌, ◌-◌, ◌<◌, ◌≤◌, max, Bool, true, false, cond, ◌⊎◌, List, [], ◌∷◌, ◌++◌, length, get_or, set, Some, None, Option, sym, refl, ap, ◌∙◌, subst, inl, inr, ⊎_elim, append-nil, arith, length-set}
+use Rattle.std.proofs.Common.{◌≡◌, ℕ, ◌+◌, ◌<◌, max, false, List, ◌++◌, length, get_or, set, sym, refl, ap, ◌∙◌, ⊎_elim, append-nil, arith, length-set}
 use Rattle.std.specs.List.{slice_get}
 use Rattle.std.proofs.lemmas.Bool.{cases_lt}
 use Rattle.ordered_map.specs.declared.node.Node.{Node}
-use Rattle.ordered_map.specs.Tree.{Tree, leaf, node, top, height, size, occ, one, entries, Balanced}
+use Rattle.ordered_map.specs.Tree.{Tree, leaf, node, top, height, size, occ, entries}
 use Rattle.ordered_map.specs.Table.{rec, Holds}
 use Rattle.ordered_map.specs.Edit.{bond}
 use Rattle.ordered_map.specs.Path.{Standing, Popped, Mendable, Mended, Excised}

@@ -1,15 +1,15 @@
 -- The way down.
-use Rattle.std.proofs.Common.{◌≡◌, ℕ, zero, suc, ◌+◌, ◌-◌, ◌<◌, ◌≤◌, max, Bool, true, false, cond, not, ◌⊎◌, List, [], ◌∷◌, ◌++◌, length, get_or, set, is_some, Some, None, Option, Ordering, Less, Equal, Greater, sym, refl, ap, ◌∙◌, subst, inl, inr, ⊎_elim, append_assoc, append-nil, arith, length-set}
-use Rattle.std.specs.List.{slice_get, AllByRecursion as All}
-use Rattle.std.specs.Ordering.{MatchOrdering, match_ordering as by_order}
+use Rattle.std.proofs.Common.{◌≡◌, ℕ, ◌+◌, ◌<◌, ◌≤◌, max, Bool, true, false, cond, List, [], ◌∷◌, ◌++◌, length, get_or, set, is_some, Some, None, Ordering, Less, Equal, Greater, sym, refl, ap, ◌∙◌, subst, append_assoc, append-nil, arith}
+use Rattle.std.specs.List.{slice_get, AllByRecursion}
+use Rattle.std.specs.Ordering.{MatchOrdering}
 use Rattle.std.proofs.ByRecursion.{All-append}
 use Rattle.ordered_map.specs.declared.node.Node.{Node}
 use Rattle.ordered_map.specs.declared.node.Step.{Step}
 use Rattle.ordered_map.specs.Order.{Order}
-use Rattle.ordered_map.specs.Tree.{Tree, leaf, node, top, height, size, occ, one, entries, Balanced, Rises, value_at, find}
-use Rattle.ordered_map.specs.Table.{rec, Holds, Rep, Kept, tree_of, pairs_of}
+use Rattle.ordered_map.specs.Tree.{Tree, leaf, node, top, height, entries, Balanced, Rises, value_at, find}
+use Rattle.ordered_map.specs.Table.{rec, Holds, Kept, tree_of}
 use Rattle.ordered_map.specs.Edit.{bond}
-use Rattle.ordered_map.specs.Path.{Frame, fill, plug, step_of, step_at, OnPath, Framing, Framed, occ_frames, Fit, tall, lead, trail, before, after, Falling, Landed, Found}
+use Rattle.ordered_map.specs.Path.{Frame, fill, plug, step_at, OnPath, Framed, Fit, tall, before, after, Falling, Landed, Found}
 use Rattle.ordered_map.proofs.Nths.{nth_in, nth_is, nth_set_same, nth_set_other}
 use Rattle.ordered_map.proofs.Bonds.{height-bond, level_parts}
 use Rattle.ordered_map.proofs.Lookups.{rep-tree, rep-low}
@@ -80,7 +80,7 @@ module _ {K : Type 0} (c : K → K → Ordering) (w : Order c) (ns : List (Node 
   abbrev pub Fell : Node K → Ordering → Type 0
   Fell x o = MatchOrdering o (Falling c t k (set path depth (step_at at true)) x.left (depth + 1)) ((is_some (value_at c (entries t) k) ≡ true) × Found c t k path depth at) (Falling c t k (set path depth (step_at at false)) x.right (depth + 1))
 
-  module _ (fs : List (Frame K)) (dp : depth ≡ length fs) (on : OnPath path fs) (ov : All (λ e. c k e.0 ≡ Greater) (before fs)) (un : All (λ e. c k e.0 ≡ Less) (after fs)) (long : 14 ≤ length path) where
+  module _ (fs : List (Frame K)) (dp : depth ≡ length fs) (on : OnPath path fs) (ov : AllByRecursion (λ e. c k e.0 ≡ Greater) (before fs)) (un : AllByRecursion (λ e. c k e.0 ≡ Less) (after fs)) (long : 14 ≤ length path) where
     fell-node : (p : ℕ) (j : K) (v : ℕ) (l r : Tree K) (h : ℕ) (o : Ordering) → at ≡ p → depth < 14 → plug fs (node p j v l r) ≡ t → Rises c (entries l ++ (j, v) ∷ entries r) → c k j ≡ o → Fell (rec j v (top l) (top r) h) o
     fell-node p j v l r h Less e dl pl ri o = record {
       frames = record { place = p; left = true; key = j; value = v; other = r } ∷ fs;
@@ -147,7 +147,7 @@ module _ {K : Type 0} (c : K → K → Ordering) (w : Order c) (ns : List (Node 
   pub fall : Falling c t k path at depth → 14 ≤ length path → (at ≡ 65535 → ⊥) → (at < length ns) × (depth < 14) × ((x : Node K) (o : Ordering) → x ≡ get_or ns at x → o ≡ c k x.key → Fell x o)
   fall f long = fall-at f.frames f.deep f.on f.over f.under long f.here f.at_is f.whole
 
-  land-at : (fs : List (Frame K)) (here : Tree K) → at ≡ top here → plug fs here ≡ t → depth ≡ length fs → OnPath path fs → All (λ e. c k e.0 ≡ Greater) (before fs) → All (λ e. c k e.0 ≡ Less) (after fs) → at ≡ 65535 → Landed c t k path depth
+  land-at : (fs : List (Frame K)) (here : Tree K) → at ≡ top here → plug fs here ≡ t → depth ≡ length fs → OnPath path fs → AllByRecursion (λ e. c k e.0 ≡ Greater) (before fs) → AllByRecursion (λ e. c k e.0 ≡ Less) (after fs) → at ≡ 65535 → Landed c t k path depth
   land-at fs leaf e pl d on ov un z = record { frames = fs; whole = pl; deep = d; on = on; over = ov; under = un }
   land-at fs (node p j v l r) e pl d on ov un z =
       let hp = holds_plug ns fs (node p j v l r) (subst (Holds ns) (sym pl) g.held) in

@@ -1,5 +1,5 @@
 -- How high a balanced tree of so many nodes can be.
-use Rattle.std.proofs.Common.{◌≡◌, ℕ, zero, suc, ◌+◌, ◌<◌, ◌≤◌, max, ◌⊎◌, Ordering, Less, Equal, Greater, sym, refl, ap, ◌∙◌, subst, inl, inr, ⊎_elim, le_trans, le_refl, arith}
+use Rattle.std.proofs.Common.{◌≡◌, ℕ, zero, suc, ◌+◌, ◌<◌, ◌≤◌, max, Ordering, Less, Equal, Greater, ⊎_elim, le_trans, le_refl, arith}
 use native.Mathlib.Decide.{le_ind}
 use Rattle.std.specs.Ordering.{match_ordering as by_order}
 use Rattle.std.proofs.lemmas.Bool.{cases_lt, cases_order}

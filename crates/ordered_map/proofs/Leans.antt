@@ -1,12 +1,9 @@
 -- The two ways of `lean`, call by call.
-use Rattle.std.proofs.Common.{◌≡◌, ℕ, zero, suc, ◌+◌, ◌<◌, ◌≤◌, max, Bool, true, false, cond, not, List, length, get_or, set, Some, None, Option, sym, refl, ap, ◌∙◌, subst, arith}
-use Rattle.std.specs.List.{slice_get}
+use Rattle.std.proofs.Common.{◌≡◌, ℕ, ◌<◌, ◌≤◌, max, Bool, cond, List, length, get_or, sym, ap, ◌∙◌, subst, arith}
 use Rattle.ordered_map.specs.declared.node.Node.{Node}
-use Rattle.ordered_map.specs.Tree.{Tree, leaf, node, top, height, size, occ, one, entries, Balanced}
-use Rattle.ordered_map.specs.Table.{rec, Holds}
-use Rattle.ordered_map.specs.Edit.{ht, Joined, bond, Loose, Like, Made, Glued, Leaning, Staged, Parted}
-use Rattle.ordered_map.proofs.Nths.{nth_in, nth_is}
-use Rattle.ordered_map.proofs.Bonds.{top-bond, height-bond, level_parts, occ-bond, ht-top, open_tree, ready, glue}
+use Rattle.ordered_map.specs.Tree.{Tree, height, Balanced}
+use Rattle.ordered_map.specs.Edit.{ht, Joined, bond, Loose, Made, Glued, Leaning, Staged, Parted}
+use Rattle.ordered_map.proofs.Bonds.{top-bond, height-bond, ht-top, open_tree, ready, glue}
 use Rattle.ordered_map.proofs.Rotations.{single-1, single-2, single-3, double-1, double-2, double-3, double-4, parts}
 
 pub heavy_in : {K : Type 0} (ns : List (Node K)) (p : ℕ) (s : Bool) (c other : ℕ) (k : K) (v : ℕ) (a b : Tree K) → Leaning ns p s c other k v a b → c < length ns

@@ -1,14 +1,13 @@
 -- The least of a tree.
-use Rattle.std.proofs.Common.{◌≡◌, ℕ, zero, suc, ◌+◌, ◌-◌, ◌<◌, ◌≤◌, max, Bool, true, false, cond, List, [], ◌∷◌, ◌++◌, length, get_or, set, Some, None, Option, sym, refl, ap, ◌∙◌, subst, append_assoc, append-nil, arith}
+use Rattle.std.proofs.Common.{◌≡◌, ℕ, ◌+◌, ◌<◌, ◌≤◌, max, true, List, [], ◌∷◌, ◌++◌, length, get_or, set, Some, sym, refl, ap, ◌∙◌, subst, append-nil, arith}
 use Rattle.std.specs.List.{slice_get}
 use Rattle.ordered_map.specs.declared.node.Node.{Node}
 use Rattle.ordered_map.specs.declared.node.Step.{Step}
 use Rattle.ordered_map.specs.Tree.{Tree, leaf, node, top, height, size, occ, one, entries, Balanced}
 use Rattle.ordered_map.specs.Table.{rec, Holds}
-use Rattle.ordered_map.specs.Edit.{Like}
-use Rattle.ordered_map.specs.Path.{Frame, fill, plug, step_at, OnPath, Framed, occ_frames, tall, Fit, before, after, Standing, Leftward, Lowest, Popped, Rising, Risen}
+use Rattle.ordered_map.specs.Path.{Frame, plug, step_at, OnPath, occ_frames, tall, Fit, before, after, Standing, Leftward, Lowest, Popped, Rising, Risen}
 use Rattle.ordered_map.proofs.Nths.{nth_in, nth_is, nth_set_same}
-use Rattle.ordered_map.proofs.Bonds.{one_self, one_zero}
+use Rattle.ordered_map.proofs.Bonds.{one_self}
 use Rattle.ordered_map.proofs.Rises.{occ-plug}
 use Rattle.ordered_map.proofs.Falls.{holds_plug, height-plug, tall_deep, level_plug, entries-plug, onpath_set}
 use Rattle.ordered_map.proofs.Enters.{size-plug}

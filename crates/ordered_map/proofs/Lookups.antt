@@ -1,12 +1,12 @@
 -- A search in the table.
-use Rattle.std.proofs.Common.{◌≡◌, ℕ, zero, suc, ◌+◌, ◌<◌, ◌≤◌, max, ◌⊎◌, List, [], ◌∷◌, ◌++◌, length, get_or, set, Some, None, Option, Ordering, Less, Equal, Greater, sym, refl, ap, ◌∙◌, subst, inl, inr, ⊎_elim, arith}
-use Rattle.std.specs.List.{slice_get, AllByRecursion as All}
-use Rattle.std.specs.Ordering.{MatchOrdering, ordering_reverse, match_ordering as by_order}
+use Rattle.std.proofs.Common.{◌≡◌, ℕ, zero, suc, ◌+◌, ◌<◌, ◌≤◌, max, List, length, get_or, Some, None, Ordering, Less, Equal, Greater, sym, refl, ap, ◌∙◌, subst, arith}
+use Rattle.std.specs.List.{slice_get}
+use Rattle.std.specs.Ordering.{MatchOrdering, match_ordering as by_order}
 use Rattle.std.proofs.lemmas.Option.{slice_get_past}
 use Rattle.ordered_map.specs.declared.node.Node.{Node}
 use Rattle.ordered_map.specs.Order.{Order}
-use Rattle.ordered_map.specs.Tree.{Tree, leaf, node, top, height, size, Balanced, entries, Rises, value_at, find, steps}
-use Rattle.ordered_map.specs.Table.{rec, Holds, grown, tree_at, Going, Rep, Kept, tree_of, pairs_of}
+use Rattle.ordered_map.specs.Tree.{Tree, leaf, node, top, height, entries, Rises, value_at, find, steps}
+use Rattle.ordered_map.specs.Table.{rec, Holds, tree_at, Going, Rep, Kept, tree_of, pairs_of}
 use Rattle.ordered_map.proofs.Nths.{nth_in, nth_is}
 use Rattle.ordered_map.proofs.Heights.{low, steps_low}
 use Rattle.ordered_map.proofs.Sorted.{find-is}

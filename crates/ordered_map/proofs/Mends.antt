@@ -1,13 +1,11 @@
 -- `mend`, way by way.
-use Rattle.std.proofs.Common.{◌≡◌, ℕ, zero, suc, ◌+◌, ◌<◌, ◌≤◌, max, Bool, true, false, cond, not, List, length, get_or, set, Some, None, Option, sym, refl, ap, ◌∙◌, subst, arith}
-use Rattle.std.specs.List.{slice_get}
+use Rattle.std.proofs.Common.{◌≡◌, ℕ, ◌+◌, ◌<◌, ◌≤◌, Bool, true, false, cond, not, List, length, get_or, sym, refl, ap, ◌∙◌, subst, arith}
 use Rattle.ordered_map.specs.declared.node.Node.{Node}
-use Rattle.ordered_map.specs.Tree.{Tree, leaf, node, top, height, size, occ, one, entries, Balanced}
-use Rattle.ordered_map.specs.Table.{rec, Holds}
-use Rattle.ordered_map.specs.Edit.{ht, Joined, bond, Loose, Like, Made, Glued, Leaning}
+use Rattle.ordered_map.specs.Tree.{Tree, top, height}
+use Rattle.ordered_map.specs.Edit.{ht, Joined, bond, Made, Leaning}
 use Rattle.ordered_map.specs.Path.{Mendable, Mended}
 use Rattle.ordered_map.proofs.Nths.{nth_in, nth_is}
-use Rattle.ordered_map.proofs.Bonds.{one_zero, occ-bond, top-bond, height-bond, level_bond, ht-top, ready, glue}
+use Rattle.ordered_map.proofs.Bonds.{one_zero, occ-bond, top-bond, level_bond, ht-top, ready, glue}
 
 bond_flip : {K : Type 0} (s : Bool) (p : ℕ) (k : K) (v : ℕ) (a b : Tree K) → bond (not s) p k v b a ≡ bond s p k v a b
 bond_flip true p k v a b = refl

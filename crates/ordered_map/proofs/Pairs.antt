@@ -1,7 +1,6 @@
 -- A pair put among sorted pairs, and a key cut out of them.
 use Rattle.std.proofs.Common.{◌≡◌, ℕ, ◌+◌, Bool, true, false, List, [], ◌∷◌, length, is_some, Some, None, Option, Ordering, Less, Equal, Greater, sym, refl, ap, ◌∙◌, subst, arith}
 use Rattle.std.specs.Ordering.{ordering_reverse, match_ordering as by_order}
-use Rattle.std.specs.List.{AllByRecursion as All}
 use Rattle.ordered_map.specs.Order.{Order}
 use Rattle.ordered_map.specs.Tree.{Rises, value_at}
 use Rattle.ordered_map.specs.Enter.{put, cut}

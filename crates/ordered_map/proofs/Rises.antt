@@ -1,15 +1,14 @@
 -- The climb along a path.
-use Rattle.std.proofs.Common.{◌≡◌, ℕ, zero, suc, ◌+◌, ◌-◌, ◌<◌, ◌≤◌, max, Bool, true, false, cond, not, ◌⊎◌, List, [], ◌∷◌, ◌++◌, length, get_or, set, Some, None, Option, sym, refl, ap, ◌∙◌, subst, inl, inr, ⊎_elim, arith}
+use Rattle.std.proofs.Common.{◌≡◌, ℕ, ◌+◌, ◌-◌, ◌<◌, ◌≤◌, max, Bool, true, false, List, [], ◌∷◌, ◌++◌, length, get_or, Some, sym, refl, ap, ◌∙◌, subst, ⊎_elim, arith}
 use Rattle.std.proofs.lemmas.Bool.{cases_lt}
 use Rattle.std.specs.List.{slice_get}
 use Rattle.ordered_map.specs.declared.node.Node.{Node}
 use Rattle.ordered_map.specs.declared.node.Step.{Step}
-use Rattle.ordered_map.specs.Tree.{Tree, leaf, node, top, height, size, occ, one, entries, Balanced}
-use Rattle.ordered_map.specs.Table.{rec, Holds}
-use Rattle.ordered_map.specs.Edit.{ht, Joined, bond, Loose, Like, Made}
-use Rattle.ordered_map.specs.Path.{Mendable, Mended, Frame, fill, plug, step_of, OnPath, Framing, Framed, occ_frames, Fit, tall, Rising, Climbing, Risen}
+use Rattle.ordered_map.specs.Tree.{Tree, height, occ, one, entries}
+use Rattle.ordered_map.specs.Edit.{bond, Like}
+use Rattle.ordered_map.specs.Path.{Mendable, Mended, Frame, fill, plug, step_of, Framed, occ_frames, tall, Rising, Climbing, Risen}
 use Rattle.ordered_map.proofs.Nths.{nth_in, nth_is}
-use Rattle.ordered_map.proofs.Bonds.{one_self, one_zero, occ-bond, size-bond, top-bond, height-bond, holds_kept}
+use Rattle.ordered_map.proofs.Bonds.{one_self, occ-bond, size-bond, height-bond, holds_kept}
 
 -- ---- like trees
 

@@ -1,12 +1,12 @@
 -- The two rotations.
-use Rattle.std.proofs.Common.{◌≡◌, ℕ, zero, suc, ◌+◌, ◌<◌, ◌≤◌, max, Bool, true, false, cond, not, List, [], ◌∷◌, ◌++◌, length, get_or, set, Some, None, Option, sym, refl, ap, ◌∙◌, subst, append_assoc, arith}
+use Rattle.std.proofs.Common.{◌≡◌, ℕ, ◌+◌, ◌<◌, ◌≤◌, max, Bool, true, false, cond, List, ◌∷◌, get_or, Some, sym, refl, ap, ◌∙◌, subst, append_assoc, arith}
 use Rattle.std.specs.List.{slice_get}
 use Rattle.ordered_map.specs.declared.node.Node.{Node}
-use Rattle.ordered_map.specs.Tree.{Tree, leaf, node, top, height, size, occ, one, entries, Balanced}
+use Rattle.ordered_map.specs.Tree.{Tree, top, height, occ, one, entries, Balanced}
 use Rattle.ordered_map.specs.Table.{rec, Holds}
-use Rattle.ordered_map.specs.Edit.{ht, Joined, bond, Loose, Like, Made, Glued, Opened, Leaning, Staged, Parted}
-use Rattle.ordered_map.proofs.Nths.{nth_in, nth_is}
-use Rattle.ordered_map.proofs.Bonds.{one_self, one_other, one_zero, holds_kept, holds_off, top-bond, height-bond, size-bond, occ-bond, level_bond, level_parts, ht-top, open_tree}
+use Rattle.ordered_map.specs.Edit.{bond, Loose, Made, Glued, Leaning, Staged, Parted}
+use Rattle.ordered_map.proofs.Nths.{nth_is}
+use Rattle.ordered_map.proofs.Bonds.{one_self, one_zero, holds_off, top-bond, height-bond, size-bond, occ-bond, level_bond, level_parts, open_tree}
 
 -- ---- the pairs stay in order
 

@@ -1,12 +1,12 @@
 -- The calls over a table of any length, from those over the records that serve.
-use Rattle.std.proofs.Common.{◌≡◌, ℕ, ◌+◌, ◌-◌, ◌<◌, ◌≤◌, min, Bool, true, false, cond, not, ◌&&◌, ltb, ◌⊎◌, List, [], ◌∷◌, ◌++◌, length, take, drop, is_some, Some, None, Option, Ordering, sym, refl, ap, ◌∙◌, subst, inl, inr, ⊎_elim, append-nil, arith, length-take}
+use Rattle.std.proofs.Common.{◌≡◌, ℕ, ◌+◌, ◌-◌, ◌<◌, ◌≤◌, min, Bool, true, false, not, ltb, ◌⊎◌, List, [], ◌++◌, length, take, drop, is_some, Some, None, Option, Ordering, sym, refl, ap, ◌∙◌, subst, ⊎_elim, append-nil, arith, length-take}
 use Rattle.std.proofs.lemmas.List.{take_all, take_at, take-append-drop, drop_all}
 use Rattle.std.proofs.lemmas.Bool.{cases_lt, lt-ltb, le-ltb, and_from, and_left, and_right, false≢true, true≢false}
 use Rattle.ordered_map.specs.declared.head.Head.{Head}
 use Rattle.ordered_map.specs.declared.node.Node.{Node}
 use Rattle.ordered_map.specs.Order.{Order}
-use Rattle.ordered_map.specs.Tree.{Tree, size, height, entries, Balanced, Rises, value_at, steps, least}
-use Rattle.ordered_map.specs.Table.{Kept, tree_of, pairs_of, Linked}
+use Rattle.ordered_map.specs.Tree.{entries, Balanced, Rises, value_at, steps, least}
+use Rattle.ordered_map.specs.Table.{Kept, pairs_of, Linked}
 use Rattle.ordered_map.specs.Enter.{put, cut, Entered, Taken}
 use Rattle.ordered_map.specs.Map.{served, room, tree_in, pairs_in, Sound, can_enter, AfterEnter, AfterRemove}
 use Rattle.ordered_map.proofs.Heights.{low_by, steps_low}

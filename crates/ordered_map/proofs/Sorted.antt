@@ -1,17 +1,17 @@
 -- Pairs whose keys rise.
-use Rattle.std.proofs.Common.{◌≡◌, ℕ, List, [], ◌∷◌, ◌++◌, Some, None, Option, Ordering, Less, Equal, Greater, sym, refl, ap, ◌∙◌, subst}
+use Rattle.std.proofs.Common.{◌≡◌, ℕ, List, [], ◌∷◌, ◌++◌, Some, None, Option, Ordering, Less, Equal, Greater, sym, refl, ap, ◌∙◌}
 use Rattle.std.specs.Ordering.{ordering_reverse, match_ordering as by_order}
-use Rattle.std.specs.List.{AllByRecursion as All}
+use Rattle.std.specs.List.{AllByRecursion}
 use Rattle.std.proofs.ByRecursion.{All-weaker}
 use Rattle.ordered_map.specs.Order.{Order}
 use Rattle.ordered_map.specs.Tree.{Tree, leaf, node, entries, Rises, value_at, find}
 
 module _ {K : Type 0} (c : K → K → Ordering) where
   abbrev pub Under : K → List (K × ℕ) → Type 0
-  Under k es = All (λ e. c k e.0 ≡ Less) es
+  Under k es = AllByRecursion (λ e. c k e.0 ≡ Less) es
 
   abbrev pub Over : K → List (K × ℕ) → Type 0
-  Over k es = All (λ e. c k e.0 ≡ Greater) es
+  Over k es = AllByRecursion (λ e. c k e.0 ≡ Greater) es
 
   pub value-under : (k : K) (es : List (K × ℕ)) → Under k es → value_at c es k ≡ None
   value-under k [] h = refl
@@ -25,11 +25,11 @@ module _ {K : Type 0} (c : K → K → Ordering) where
   value-right k [] ys h = refl
   value-right k (x ∷ xs) ys h = rw h.0 (value-right k xs ys h.1)
 
-  all_left : (P : K × ℕ → Type 0) (xs ys : List (K × ℕ)) → All P (xs ++ ys) → All P xs
+  all_left : (P : K × ℕ → Type 0) (xs ys : List (K × ℕ)) → AllByRecursion P (xs ++ ys) → AllByRecursion P xs
   all_left P [] ys h = tt
   all_left P (x ∷ xs) ys h = (h.0, all_left P xs ys h.1)
 
-  all_right : (P : K × ℕ → Type 0) (xs ys : List (K × ℕ)) → All P (xs ++ ys) → All P ys
+  all_right : (P : K × ℕ → Type 0) (xs ys : List (K × ℕ)) → AllByRecursion P (xs ++ ys) → AllByRecursion P ys
   all_right P [] ys h = h
   all_right P (x ∷ xs) ys h = all_right P xs ys h.1
 
@@ -41,7 +41,7 @@ module _ {K : Type 0} (c : K → K → Ordering) where
   rises-right [] ys h = h
   rises-right (x ∷ xs) ys h = rises-right xs ys h.1
 
-  pub rises-mid : (xs : List (K × ℕ)) (e : K × ℕ) (ys : List (K × ℕ)) → Rises c (xs ++ e ∷ ys) → All (λ d. c d.0 e.0 ≡ Less) xs
+  pub rises-mid : (xs : List (K × ℕ)) (e : K × ℕ) (ys : List (K × ℕ)) → Rises c (xs ++ e ∷ ys) → AllByRecursion (λ d. c d.0 e.0 ≡ Less) xs
   rises-mid [] e ys h = tt
   rises-mid (x ∷ xs) e ys h = ((all_right (λ d. c x.0 d.0 ≡ Less) xs (e ∷ ys) h.0).0, rises-mid xs e ys h.1)
 
@@ -56,10 +56,10 @@ module _ {K : Type 0} (c : K → K → Ordering) where
     pub under-less : (k j : K) (es : List (K × ℕ)) → c k j ≡ Less → Under j es → Under k es
     under-less k j es h = All-weaker (λ e. c j e.0 ≡ Less) (λ e. c k e.0 ≡ Less) (λ e u. w.trans k j e.0 h u) es
 
-    pub over-mid : (k j : K) (es : List (K × ℕ)) → c k j ≡ Greater → All (λ d. c d.0 j ≡ Less) es → Over k es
+    pub over-mid : (k j : K) (es : List (K × ℕ)) → c k j ≡ Greater → AllByRecursion (λ d. c d.0 j ≡ Less) es → Over k es
     over-mid k j es h = All-weaker (λ d. c d.0 j ≡ Less) (λ e. c k e.0 ≡ Greater) (λ e u. turned-less e.0 k (w.trans e.0 j k u (turned-greater k j h))) es
 
-    pub over_equal : (k j : K) (es : List (K × ℕ)) → c k j ≡ Equal → All (λ d. c d.0 j ≡ Less) es → Over k es
+    pub over_equal : (k j : K) (es : List (K × ℕ)) → c k j ≡ Equal → AllByRecursion (λ d. c d.0 j ≡ Less) es → Over k es
     over_equal k j es h = All-weaker (λ d. c d.0 j ≡ Less) (λ e. c k e.0 ≡ Greater) (λ e u. turned-less e.0 k (rw (w.exact k j h) u)) es
 
     find-by : (k j : K) (v : ℕ) (xs ys : List (K × ℕ)) (a b : Option ℕ) (o : Ordering) → c k j ≡ o → Rises c (xs ++ (j, v) ∷ ys) → a ≡ value_at c xs k → b ≡ value_at c ys k → by_order o a (Some v) b ≡ value_at c (xs ++ (j, v) ∷ ys) k

@@ -1,15 +1,14 @@
 -- Taking a pair out.
-use Rattle.std.proofs.Common.{◌≡◌, ℕ, zero, suc, ◌+◌, ◌-◌, ◌<◌, ◌≤◌, max, Bool, true, false, cond, ◌⊎◌, List, [], ◌∷◌, ◌++◌, length, get_or, set, is_some, Some, None, Option, Ordering, Less, Equal, Greater, sym, refl, ap, ◌∙◌, subst, inl, inr, ⊎_elim, append_assoc, arith, length-set}
-use Rattle.std.specs.List.{slice_get, AllByRecursion as All}
-use Rattle.std.specs.Ordering.{match_ordering as by_order}
+use Rattle.std.proofs.Common.{◌≡◌, ℕ, ◌+◌, ◌<◌, ◌≤◌, max, List, [], ◌∷◌, ◌++◌, length, set, is_some, Some, Ordering, Less, Equal, Greater, sym, refl, ap, ◌∙◌, subst, ⊎_elim, append_assoc, arith, length-set}
+use Rattle.std.specs.List.{AllByRecursion}
 use Rattle.std.proofs.ByRecursion.{All-append}
 use Rattle.ordered_map.specs.declared.node.Node.{Node}
 use Rattle.ordered_map.specs.declared.node.Step.{Step}
-use Rattle.ordered_map.specs.Tree.{Tree, leaf, node, top, height, size, occ, one, entries, Balanced, Rises, value_at}
-use Rattle.ordered_map.specs.Table.{rec, Holds, Rep, Kept, tree_of, pairs_of, first, Chained, occs}
-use Rattle.ordered_map.specs.Path.{Frame, plug, Framed, occ_frames, tall, before, after, Found, Standing, Excised, Rising, Risen}
+use Rattle.ordered_map.specs.Tree.{Tree, leaf, node, top, height, size, occ, entries, Balanced, Rises, value_at}
+use Rattle.ordered_map.specs.Table.{rec, Holds, Rep, Kept, tree_of, pairs_of}
+use Rattle.ordered_map.specs.Path.{plug, Framed, occ_frames, tall, before, after, Found, Standing, Excised, Rising, Risen}
 use Rattle.ordered_map.specs.Enter.{cut, Taken}
-use Rattle.ordered_map.proofs.Nths.{nth_in, nth_is, nth_set_same, nth_set_other}
+use Rattle.ordered_map.proofs.Nths.{nth_in, nth_set_same, nth_set_other}
 use Rattle.ordered_map.proofs.Bonds.{one_self, one_zero, one_other, holds_off}
 use Rattle.std.proofs.lemmas.Bool.{cases_lt}
 use Rattle.ordered_map.proofs.Lookups.{rep-tree, rep-low}
@@ -28,11 +27,11 @@ occ_in ns q (node p k v l r) h u =
     omega arith
 
 module _ {K : Type 0} (c : K → K → Ordering) (k : K) (v : ℕ) where
-  cut-is : (xs ys : List (K × ℕ)) → All (λ e. c k e.0 ≡ Greater) xs → c k k ≡ Equal → cut c (xs ++ (k, v) ∷ ys) k ≡ xs ++ ys
+  cut-is : (xs ys : List (K × ℕ)) → AllByRecursion (λ e. c k e.0 ≡ Greater) xs → c k k ≡ Equal → cut c (xs ++ (k, v) ∷ ys) k ≡ xs ++ ys
   cut-is [] ys o e = rw e refl
   cut-is (x ∷ xs) ys o e = rw o.0 (ap (λ es. x ∷ es) (cut-is xs ys o.1 e))
 
-  all-less : (P : K × ℕ → Type 0) (xs ys : List (K × ℕ)) → All P (xs ++ (k, v) ∷ ys) → All P (xs ++ ys)
+  all-less : (P : K × ℕ → Type 0) (xs ys : List (K × ℕ)) → AllByRecursion P (xs ++ (k, v) ∷ ys) → AllByRecursion P (xs ++ ys)
   all-less P [] ys h = h.1
   all-less P (x ∷ xs) ys h = (h.0, all-less P xs ys h.1)
 
@@ -108,7 +107,7 @@ module _ {K : Type 0} (c : K → K → Ordering) (ns : List (Node K)) (root free
     old-list : entries s.0 ≡ (before f.frames ++ entries f.left) ++ (k, f.value) ∷ (entries f.right ++ after f.frames)
     old-list = ap entries (sym f.whole) ∙ (entries-plug f.frames (node place k f.value f.left f.right) ∙ simp append_assoc)
 
-    over : All (λ e. c k e.0 ≡ Greater) (before f.frames ++ entries f.left)
+    over : AllByRecursion (λ e. c k e.0 ≡ Greater) (before f.frames ++ entries f.left)
     over = All-append (λ e. c k e.0 ≡ Greater) (before f.frames) (entries f.left) f.over f.over_left
 
     pub taken : (os : List (Node K)) (r high : ℕ) → Risen ms os r (plug f.frames e.tree) high → (g : Node K) → g.left ≡ free → Taken c ns root k (set os freed g) (Some (r, freed))

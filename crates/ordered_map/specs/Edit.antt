@@ -1,8 +1,8 @@
 -- Edits of the table.
-use Rattle.std.specs.Prelude.{◌≡◌, ℕ, zero, suc, ◌+◌, ◌<◌, ◌≤◌, max, Bool, true, false, cond, not, List, [], ◌∷◌, ◌++◌, length, Some, None, Option, ◌≢◌, slice_set}
+use Rattle.std.specs.Prelude.{◌≡◌, ℕ, ◌+◌, ◌<◌, ◌≤◌, max, Bool, true, false, cond, List, length, Some, None, Option, ◌≢◌, slice_set}
 use Rattle.std.specs.List.{slice_get}
 use Rattle.ordered_map.specs.declared.node.Node.{Node}
-use Rattle.ordered_map.specs.Tree.{Tree, leaf, node, top, height, size, occ, one, entries, Balanced}
+use Rattle.ordered_map.specs.Tree.{Tree, node, top, height, size, occ, one, entries, Balanced}
 use Rattle.ordered_map.specs.Table.{rec, Holds}
 
 -- the height at a place

@@ -1,5 +1,5 @@
 -- What a map in a table means, and what its calls make of it.
-use Rattle.std.specs.Prelude.{◌≡◌, ℕ, ◌<◌, min, Bool, true, false, cond, not, ◌&&◌, List, length, take, is_some, Some, None, ◌≢◌, nat_lt}
+use Rattle.std.specs.Prelude.{◌≡◌, ℕ, min, Bool, true, false, cond, not, ◌&&◌, List, length, take, is_some, Some, None, ◌≢◌, nat_lt}
 use Rattle.std.specs.declared.cmp.Ordering.{Ordering}
 use Rattle.ordered_map.specs.declared.head.Head.{Head}
 use Rattle.ordered_map.specs.declared.node.Node.{Node}

@@ -1,12 +1,12 @@
 -- The way from a place up to the root.
-use Rattle.std.specs.Prelude.{◌≡◌, ℕ, zero, suc, ◌+◌, ◌<◌, ◌≤◌, max, Bool, true, false, cond, not, List, [], ◌∷◌, ◌++◌, length, get_or, set, is_some, Some, None, Ok, Err, Option, Result}
+use Rattle.std.specs.Prelude.{◌≡◌, ℕ, ◌+◌, ◌<◌, ◌≤◌, max, Bool, true, cond, List, [], ◌∷◌, ◌++◌, length, is_some, Some, None, Ok, Err, Result}
 use Rattle.std.specs.declared.cmp.Ordering.TheVariants.{Less, Equal, Greater}
 use Rattle.std.specs.declared.cmp.Ordering.{Ordering}
-use Rattle.std.specs.List.{slice_get, AllByRecursion as All}
+use Rattle.std.specs.List.{slice_get, AllByRecursion}
 use Rattle.ordered_map.specs.declared.node.Node.{Node}
 use Rattle.ordered_map.specs.declared.node.Step.{Step}
 use Rattle.ordered_map.specs.Tree.{Tree, leaf, node, top, height, size, occ, one, entries, Balanced, value_at}
-use Rattle.ordered_map.specs.Table.{rec, Holds}
+use Rattle.ordered_map.specs.Table.{Holds}
 use Rattle.ordered_map.specs.Edit.{bond, Loose, Like, Made}
 
 -- p, whose child on the side s was replaced by the tree a at `near`, while b stands on the other
@@ -135,8 +135,8 @@ pub record Falling {K : Type 0} (c : K → K → Ordering) (t : Tree K) (k : K) 
   pub whole : plug frames here ≡ t
   pub deep : depth ≡ length frames
   pub on : OnPath path frames
-  pub over : All (λ e. c k e.0 ≡ Greater) (before frames)
-  pub under : All (λ e. c k e.0 ≡ Less) (after frames)
+  pub over : AllByRecursion (λ e. c k e.0 ≡ Greater) (before frames)
+  pub under : AllByRecursion (λ e. c k e.0 ≡ Less) (after frames)
 
 -- such a way to where k would stand
 pub record Landed {K : Type 0} (c : K → K → Ordering) (t : Tree K) (k : K) (path : List Step) (depth : ℕ) : Type 0 where
@@ -144,8 +144,8 @@ pub record Landed {K : Type 0} (c : K → K → Ordering) (t : Tree K) (k : K) (
   pub whole : plug frames leaf ≡ t
   pub deep : depth ≡ length frames
   pub on : OnPath path frames
-  pub over : All (λ e. c k e.0 ≡ Greater) (before frames)
-  pub under : All (λ e. c k e.0 ≡ Less) (after frames)
+  pub over : AllByRecursion (λ e. c k e.0 ≡ Greater) (before frames)
+  pub under : AllByRecursion (λ e. c k e.0 ≡ Less) (after frames)
 
 abbrev pub step_at : ℕ → Bool → Step
 step_at p s = record { place = p; left = s }
@@ -225,9 +225,9 @@ pub record Found {K : Type 0} (c : K → K → Ordering) (t : Tree K) (k : K) (p
   pub whole : plug frames (node place k value left right) ≡ t
   pub deep : depth ≡ length frames
   pub on : OnPath path frames
-  pub over : All (λ e. c k e.0 ≡ Greater) (before frames)
+  pub over : AllByRecursion (λ e. c k e.0 ≡ Greater) (before frames)
   pub same : c k k ≡ Equal
-  pub over_left : All (λ e. c k e.0 ≡ Greater) (entries left)
+  pub over_left : AllByRecursion (λ e. c k e.0 ≡ Greater) (entries left)
 
 -- where the way down ends: at k, or where k would stand
 abbrev pub Located : {K : Type 0} → (K → K → Ordering) → Tree K → K → List Step → Result (ℕ × ℕ) ℕ → Type 0

@@ -19,14 +19,6 @@ pub fn page_key(bytes: &[u8]) -> u64
     key
 }
 
-// The same for programs in other languages.
-#[unsafe(no_mangle)]
-pub extern "C" fn catungleb_page_key(bytes: &[u8]) -> u64
-    ensures { result ≡ key_of bytes.now }
-{
-    page_key(bytes)
-}
-
 // The keys that FNV's authors publish. It does nothing; its contract is the table.
 pub fn published_keys()
     ensures { PublishedKeys }

@@ -1,10 +1,10 @@
-use Rattle.std.proofs.Common.{◌≡◌, ℕ, ◌<◌, ◌⊎◌, List, length, Some, None, Ok, Err, Option, unwrap_or, sym, refl, ap, ◌∙◌, inl, inr, ⊎_elim, arith}
+use Rattle.std.proofs.Common.{◌≡◌, ℕ, ◌<◌, ◌⊎◌, length, Some, None, Ok, Err, Option, unwrap_or, refl, ap, ◌∙◌, inl, inr, ⊎_elim, arith}
 use Rattle.std.proofs.lemmas.List.{get_or-set_same, get_or-set_other, length-set}
 use Rattle.std.proofs.lemmas.Bool.{lt-ltb, eq-eqb}
 use Rattle.std.proofs.lemmas.Bool.Decides.{nat_tests}
 use Rattle.page_store.specs.declared.refusal.Refusal.{Refusal}
 use Rattle.page_store.specs.Stores.{Page, Store, size_of, slot_of, with_slot}
-use Rattle.page_store.specs.Calls.{answer, after, fetch_refusal, put_refusal, empty_refusal, Fetched, Put, Emptied}
+use Rattle.page_store.specs.Calls.{answer, after, fetch_refusal, put_refusal, empty_refusal, Put, Emptied}
 use Rattle.page_store.specs.Laws.{Done, PutHoldsThePage, FetchAfterPutGivesThePage, EmptiedHoldsNothing, OtherSlotsStay, SizesStay, RefusalsChangeNothing}
 
 -- A call is accepted, with the new store after it, or refused, with the old one.

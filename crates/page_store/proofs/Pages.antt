@@ -1,6 +1,6 @@
 use Rattle.std.proofs.Common.{◌≡◌, ℕ, suc, ◌+◌, ◌*◌, ◌<◌, ◌≤◌, ◌⊎◌, List, ◌++◌, length, get_or, take, drop, sym, ap, ◌∙◌, inl, inr, ⊎_elim, suc-mul, arith}
 use borrow.Rule.Slice.PartMut.{put_mid}
-use Rattle.std.specs.List.{AllByRecursion as All}
+use Rattle.std.specs.List.{AllByRecursion}
 use Rattle.std.proofs.lemmas.Nat.{mul-le}
 use Rattle.std.proofs.ByRecursion.{All-get_or, All-from_get_or, All-append, All-take, All-drop}
 use Rattle.std.proofs.lemmas.List.{drop-drop, drop-take, drop_at, take_at, length-append, get_or-take, get_or-drop, length-drop, length-take-le}
@@ -69,10 +69,10 @@ page_other p i j bs ys h ly ne =
 
 -- Lists of bytes.
 
-byte_list : (bs : List ℕ) → Bytes bs → All (λ b. b < 256) bs
+byte_list : (bs : List ℕ) → Bytes bs → AllByRecursion (λ b. b < 256) bs
 byte_list bs h = All-from_get_or (λ b. b < 256) bs 0 h
 
-list_bytes : (bs : List ℕ) → All (λ b. b < 256) bs → Bytes bs
+list_bytes : (bs : List ℕ) → AllByRecursion (λ b. b < 256) bs → Bytes bs
 list_bytes bs h k l = All-get_or (λ b. b < 256) bs k 0 l h
 
 pub bytes_take : (n : ℕ) (bs : List ℕ) → Bytes bs → Bytes (take n bs)

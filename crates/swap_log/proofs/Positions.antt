@@ -1,13 +1,13 @@
-use Rattle.std.proofs.Common.{◌≡◌, ℕ, zero, suc, ◌+◌, ◌<◌, ◌≤◌, Bool, true, false, cond, not, eqb, List, [], ◌∷◌, ◌++◌, map, length, get_or, set, is_some, Some, None, filter, sym, refl, ap, ◌∙◌, ⊎_elim, arith}
+use Rattle.std.proofs.Common.{◌≡◌, ℕ, zero, suc, ◌+◌, ◌<◌, ◌≤◌, Bool, true, false, cond, eqb, List, [], ◌∷◌, ◌++◌, map, length, get_or, set, Some, None, sym, refl, ap, ◌∙◌, ⊎_elim, arith}
 use Rattle.std.proofs.lemmas.List.FromFn.{length-map-range_with_len, get_or-map-range_with_len}
 use Rattle.std.proofs.lemmas.List.Elements.{filter-append}
 use Rattle.std.proofs.lemmas.List.{length-map, map-append}
 use Rattle.std.proofs.lemmas.Bool.{cases_eq, eq-eqb, ne_eqb}
 use Rattle.page_store.specs.Stores.{Page, size_of, slot_of, with_slot}
 use Rattle.page_store.specs.Tallies.{tally}
-use Rattle.page_store.proofs.Counts.{counted_set, counted_ext, counted_same}
+use Rattle.page_store.proofs.Counts.{counted_set, counted_ext}
 use Rattle.page_store.proofs.Pigeons.{tally-append, pigeonhole, pigeonhole_less}
-use Rattle.swap_log.specs.Layout.{Position, is_live, live, bearing, Within, Once, slot_in, slots_in, log_of, dead, killed, with_room}
+use Rattle.swap_log.specs.Layout.{Position, is_live, live, bearing, Within, Once, slot_in, slots_in, log_of, killed, with_room}
 
 -- Lists of positions: how many bear a number, and what the slots hold.
 

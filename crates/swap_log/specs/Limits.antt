@@ -1,12 +1,11 @@
 use Rattle.std.specs.Prelude.{◌≡◌, ℕ, ◌*◌, ◌<◌, ◌≤◌, Bool, true, false, cond, List, [], ◌∷◌, length, Some, None, Option, ◌==◌, slice_index_or, refl}
-use Rattle.std.proofs.Common.{ap, sym, subst, ◌∙◌, ⊎_elim, arith}
-use Rattle.std.specs.List.{AllByRecursion as All}
+use Rattle.std.proofs.Common.{sym, subst, ◌∙◌, ⊎_elim, arith}
+use Rattle.std.specs.List.{AllByRecursion}
 use Rattle.std.proofs.lemmas.List.FromFn.{length-map-range_with_len, get_or-map-range_with_len}
 use Rattle.std.proofs.ByRecursion.{All-from_get_or}
 use Rattle.std.proofs.lemmas.List.{get_or_past}
 use Rattle.std.proofs.lemmas.Bool.{cases_lt}
 use Rattle.page_store.specs.Stores.{Page, Sound, Bytes, is_page_size, slot_of}
-use Rattle.page_store.specs.Memory.{page_at}
 use Rattle.page_store.proofs.Pages.{page_length, bytes_page}
 use Rattle.swap_log.specs.Layout.{Position, position_at, positions_in, slot_in, slots_in, log_of}
 
@@ -20,7 +19,7 @@ no_page : {o : Option Page} {b : Page} {A : Type 0} → o ≡ None → o ≡ Som
 no_page e h = let z : ◌≡◌ {A = ℕ} 0 1 = cc in absurd (omega arith)
 
 -- a slot's page is the page at some position
-held : (P : Page → Type 0) (xs : List Position) (q : ℕ) (b : Page) → All (λ x. P x.page) xs → slot_in xs q ≡ Some b → P b
+held : (P : Page → Type 0) (xs : List Position) (q : ℕ) (b : Page) → AllByRecursion (λ x. P x.page) xs → slot_in xs q ≡ Some b → P b
 held P [] q b all h = no_page refl h
 held P (x ∷ xs) q b all h = here (x.number == q) h (λ e. held P xs q b all.1 e)
   where
@@ -29,7 +28,7 @@ held P (x ∷ xs) q b all h = here (x.number == q) h (λ e. held P xs q b all.1 
     here false e later = later e
 
 -- every position has one page of bytes
-pages_fit : (p e : ℕ) (ns bs : List ℕ) → length bs ≡ length ns * p → e ≤ length ns → Bytes bs → All (λ x. OnePage p x.page) (positions_in p ns bs e)
+pages_fit : (p e : ℕ) (ns bs : List ℕ) → length bs ≡ length ns * p → e ≤ length ns → Bytes bs → AllByRecursion (λ x. OnePage p x.page) (positions_in p ns bs e)
 unfolding positions_in
 pages_fit p e ns bs whole used bounded =
     let n = length-map-range_with_len (position_at p ns bs) 0 e in

@@ -1,4 +1,4 @@
-use Rattle.std.proofs.Common.{◌≡◌, set, sym, ap, ◌∙◌}
+use Rattle.std.proofs.Common.{◌∙◌}
 use Rattle.ordered_map.proofs.Nths.{nth_is}
 use Rattle.ordered_map.proofs.edit.join.Goals as goal
 

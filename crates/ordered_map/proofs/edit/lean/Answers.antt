@@ -1,6 +1,5 @@
-use Rattle.std.proofs.Common.{◌≡◌, ℕ, ◌+◌, ◌<◌, ◌≤◌, length, sym, ap, ◌∙◌, arith, rules}
-use Rattle.ordered_map.specs.Tree.{Tree}
-use Rattle.ordered_map.specs.Edit.{ht, Leaning, Staged, Parted}
+use Rattle.std.proofs.Common.{◌<◌, ◌≤◌, length, arith, rules}
+use Rattle.ordered_map.specs.Edit.{ht}
 use Rattle.ordered_map.proofs.Rotations.{stage}
 use Rattle.ordered_map.proofs.Leans.{heavy_in, single-ready-1, single-ready-2, single-made, inner-in, inner-parts, double-ready-1, double-ready-2, double-ready-3, double-made}
 use Rattle.ordered_map.proofs.edit.lean.Goals as goal

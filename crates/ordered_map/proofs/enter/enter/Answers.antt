@@ -1,4 +1,4 @@
-use Rattle.std.proofs.Common.{◌≡◌, ◌<◌, length, refl, inl, inr, rules}
+use Rattle.std.proofs.Common.{◌<◌, length, refl, inl, inr, rules}
 use Rattle.ordered_map.specs.Tree.{node, leaf}
 use Rattle.ordered_map.proofs.Enters.{full, room, rising, entered, l}
 use Rattle.ordered_map.proofs.enter.enter.Goals as goal

@@ -1,4 +1,4 @@
-use Rattle.std.proofs.Common.{ℕ, ◌+◌, ◌-◌, ◌<◌, ◌≤◌, length, arith, rules}
+use Rattle.std.proofs.Common.{◌<◌, ◌≤◌, length, arith, rules}
 use Rattle.ordered_map.proofs.Leasts.{left-none, left-turn}
 use Rattle.ordered_map.proofs.least.leftmost.Goals as goal
 

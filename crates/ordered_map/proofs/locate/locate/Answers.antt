@@ -1,7 +1,7 @@
-use Rattle.std.proofs.Common.{◌≡◌, ℕ, ◌+◌, ◌-◌, ◌<◌, ◌≤◌, length, sym, ap, ◌∙◌, arith, rules}
+use Rattle.std.proofs.Common.{◌<◌, ◌≤◌, length, sym, ap, ◌∙◌, arith, rules}
 use Rattle.ordered_map.specs.Tree.{top}
 use Rattle.ordered_map.proofs.Lookups.{rep-tree}
-use Rattle.ordered_map.proofs.Falls.{Ground, ground, fall, falls_none, land, landed_absent}
+use Rattle.ordered_map.proofs.Falls.{ground, fall, falls_none, land, landed_absent}
 use Rattle.ordered_map.proofs.locate.locate.Goals as goal
 
 pub loop-at-init : goal.loop-at-init

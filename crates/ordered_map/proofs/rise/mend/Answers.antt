@@ -1,4 +1,4 @@
-use Rattle.std.proofs.Common.{ℕ, ◌+◌, ◌<◌, ◌≤◌, length, arith, rules}
+use Rattle.std.proofs.Common.{◌+◌, ◌<◌, ◌≤◌, length, arith, rules}
 use Rattle.ordered_map.specs.Edit.{ht}
 use Rattle.ordered_map.proofs.Mends.{place_in, low-hts, lean-near, lean-far, join-ready, mended-near, mended-far, mended-even}
 use Rattle.ordered_map.proofs.rise.mend.Goals as goal

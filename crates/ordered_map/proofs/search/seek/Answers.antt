@@ -1,4 +1,4 @@
-use Rattle.std.proofs.Common.{◌≡◌, ℕ, ◌+◌, ◌<◌, ◌≤◌, length, sym, ap, ◌∙◌, arith, rules}
+use Rattle.std.proofs.Common.{◌<◌, length, ◌∙◌, arith, rules}
 use Rattle.ordered_map.proofs.Lookups.{start, turn, ended, more-steps, sound-steps, sound-find}
 use Rattle.ordered_map.proofs.search.seek.Goals as goal
 

@@ -2,7 +2,7 @@ use Rattle.std.proofs.Common.{◌≡◌, ◌+◌, ◌-◌, ◌*◌, ◌≤◌, l
 use borrow.Rule.Slice.PartMut.{put_mid}
 use Rattle.page_store.specs.Memory.{page_at, with_page_at}
 use Rattle.page_store.proofs.Pages.{written_is, place_ends, page_here}
-use Rattle.frame_pool.specs.Layout.{Memory, pool_of}
+use Rattle.frame_pool.specs.Layout.{pool_of}
 use Rattle.frame_pool.specs.Meaning.{memory_of}
 use Rattle.frame_pool.proofs.Pools.{pool_saved}
 use Rattle.frame_pool.proofs.pool.FramePool.save.Goals as goal

@@ -1,4 +1,3 @@
-use Rattle.std.proofs.Common.{rules}
 use Rattle.swap_log.proofs.Founds.{slot_is, slot_is_empty}
 use Rattle.swap_log.proofs.log.SwapLog.holds.Goals as goal
 

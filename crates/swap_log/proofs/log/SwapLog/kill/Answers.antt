@@ -1,9 +1,8 @@
-use Rattle.std.proofs.Common.{◌≡◌, ◌*◌, set, sym, refl, ap, ◌∙◌, subst, arith}
-use Rattle.std.proofs.lemmas.List.{length-set, set-get_or}
+use Rattle.std.proofs.Common.{◌*◌, set, sym, refl, ap, ◌∙◌, subst, arith}
+use Rattle.std.proofs.lemmas.List.{length-set}
 use Rattle.std.proofs.lemmas.Bool.{false≢true}
-use Rattle.page_store.specs.Stores.{slot_of, with_slot}
 use Rattle.swap_log.specs.Layout.{positions_in, Within, Once, log_of}
-use Rattle.swap_log.specs.Meaning.{positions_of, model_of}
+use Rattle.swap_log.specs.Meaning.{positions_of}
 use Rattle.swap_log.proofs.Arrays.{found_none, found_killed}
 use Rattle.swap_log.proofs.Founds.{slot_is, slot_is_empty, once_here}
 use Rattle.swap_log.proofs.Positions.{killed_same, killed_within, killed_once, few_live, log_killed}

@@ -1,4 +1,4 @@
-use Rattle.std.proofs.Common.{◌≡◌, ◌*◌, take, drop, sym, refl, ap, ◌∙◌, arith}
+use Rattle.std.proofs.Common.{◌≡◌, ◌*◌, take, drop, ap, ◌∙◌, arith}
 use Rattle.page_store.specs.Memory.{page_at}
 use Rattle.swap_log.proofs.Founds.{slot_is, slot_is_empty}
 use Rattle.swap_log.proofs.log.SwapLog.load.Goals as goal
