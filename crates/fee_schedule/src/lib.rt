@@ -1,6 +1,6 @@
 #![tactic(auto)]
 
-ghost use Rattle.std.specs.Prelude.{◌≡◌, ◌<◌, ltb, length, if◌then◌else◌, Some, None, nat_lt};
+ghost use Rattle.std.specs.Prelude.{◌≡◌, ◌<◌, length, if◌then◌else◌, Some, None, nat_lt};
 ghost use Rattle.page_store.specs.Memory.{with_page_at};
 ghost use Rattle.fee_schedule.specs.Fees.{line_count, fee_bytes, fee_at, FeeReadsBack, OtherFeesStay};
 
@@ -16,7 +16,7 @@ pub fn line_count(page: &[u8]) -> usize
 // Writes a fee into a line; false where the page has no such line, and then nothing changes.
 pub fn write_fee(page: &mut [u8], line: usize, cents: u32) -> bool
     ensures answers { result ≡ nat_lt line (line_count (length page.old)) }
-    ensures changes_this_line_only { page.new ≡ (if ltb line (line_count (length page.old)) then with_page_at 4 page.old line (fee_bytes cents) else page.old) }
+    ensures changes_this_line_only { page.new ≡ (if nat_lt line (line_count (length page.old)) then with_page_at 4 page.old line (fee_bytes cents) else page.old) }
 {
     if line >= line_count(page) {
         return false;
@@ -36,7 +36,7 @@ fn write_line(page: &mut [u8], line: usize, bytes: &[u8])
 
 // The fee in a line; none where the page has no such line.
 pub fn read_fee(page: &[u8], line: usize) -> Option<u32>
-    ensures { result ≡ (if ltb line (line_count (length page.now)) then Some (fee_at page.now line) else None) }
+    ensures { result ≡ (if nat_lt line (line_count (length page.now)) then Some (fee_at page.now line) else None) }
 {
     if line >= line_count(page) {
         return None;

@@ -1,4 +1,4 @@
-ghost use Rattle.std.specs.Prelude.{◌≡◌, ◌<◌, true, false, ◌||◌, length, get_or, replicate, if◌then◌else◌, Some, None, Ok, slice_index_or, slice_set};
+ghost use Rattle.std.specs.Prelude.{◌≡◌, ◌<◌, true, false, ◌||◌, length, replicate, if◌then◌else◌, Some, None, Ok, slice_index_or, slice_set};
 ghost use Rattle.std.specs.Option.{unwrap_or};
 ghost use Rattle.page_store.specs.Stores.{size_of, slot_of, is_full, with_slot};
 ghost use Rattle.page_store.specs.Calls.{answer, after, ask_refusal, fetch_refusal, put_refusal, empty_refusal, Asked, Fetched, Put, Emptied};
@@ -45,7 +45,7 @@ impl<S: PageStore> PageStore for ZeroLayer<S> {
 
     fn fetch(&self, slot: usize, buffer: &mut [u8]) -> Result<(), Refusal>
         ensures store { Fetched (model_of S.PageStore.model self.now) slot buffer.old buffer.new result }
-        ensures marked_slots_give_zeros { buffer.new ≡ after (fetch_refusal (model_of S.PageStore.model self.now) slot (length buffer.old)) (if get_or self.now.marks slot false then zeros (length buffer.old) else unwrap_or (slot_of (S.PageStore.model self.now.below) slot) buffer.old) buffer.old }
+        ensures marked_slots_give_zeros { buffer.new ≡ after (fetch_refusal (model_of S.PageStore.model self.now) slot (length buffer.old)) (if slice_index_or self.now.marks slot false then zeros (length buffer.old) else unwrap_or (slot_of (S.PageStore.model self.now.below) slot) buffer.old) buffer.old }
     {
         if buffer.len() != self.page_size() {
             return Err(Refusal::WrongLength);
