@@ -18,7 +18,7 @@ KEYWORDS = {"use", "mod", "pub", "unfolding", "where", "let", "in", "record", "d
 LIBRARY = {"length", "take", "drop", "set", "nth", "append", "cond", "swap", "map", "filter"}
 NAME = r"[^\s:(){}\[\],;.=→×≡≢|`\"]+"
 TOP = re.compile(rf"(?:(?:abbrev|unfoldable|pub)\s+)*(?:(record|data)\s+)?({NAME})\s*(?::|\(|\{{)")
-FIELD = re.compile(rf"\s+(?:pub\s+)?({NAME})\s+:\s")
+INNER = re.compile(rf"\s+(?:(?:abbrev|unfoldable|pub)\s+)*(?:(record|data)\s+)?({NAME})\s+:\s")
 TOKEN = re.compile(r"[^\s(){}\[\],;.:=λ`\"]+")
 
 
@@ -35,27 +35,18 @@ def read(path):
 
 
 def declarations(path):
-    """(name, whether it is a type or fact, whether it is a function) for each declaration of the file."""
-    inside = False
+    """(name, whether it is a type or fact, whether it is a function of the file itself) for each declaration."""
     for line in read(path).split("\n"):
-        if not line or line.startswith("--"):
-            inside = inside and not line.startswith("--")
+        start = line.split()[:1]
+        if not start or start[0] in ("use", "mod", "let", "module") or start[0].startswith("--"):
             continue
-        if line[0].isspace():
-            field = FIELD.match(line)
-            if inside and field:
-                yield field.group(1), False, False
-            continue
-        inside = False
-        if line.split()[0] in ("use", "mod") or line.startswith(("pub mod ", "pub use ")):
-            continue
-        top = TOP.match(line)
-        if not top or top.group(2) in KEYWORDS or ": goal." in line:
+        inner = line[0].isspace()
+        found = (INNER if inner else TOP).match(line)
+        if not found or found.group(2) in KEYWORDS or ": goal." in line:
             continue
         of = line.split(":", 1)[-1]
-        fact = bool(top.group(1)) or re.search(r"Type \d+( where)?$", line.rstrip()) is not None
-        inside = bool(top.group(1))
-        yield top.group(2), fact, not fact and "≡" not in of
+        fact = bool(found.group(1)) or re.search(r"Type \d+( where)?$", line.rstrip()) is not None
+        yield found.group(2), fact, not inner and not fact and "≡" not in of
 
 
 def camel(name):

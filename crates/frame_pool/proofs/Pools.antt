@@ -19,18 +19,18 @@ unfolding slots_in
 pool_slot p m i h = get_or-map-range_with_len (slot_at p m) 0 (length m.marks) i i None h (omega arith)
 
 pub full_is_marked : (p : ℕ) (m : Memory) (i : ℕ) → i < length m.marks → is_full (pool_of p m) i ≡ not (eqb (get_or m.marks i 0) 0)
-full_is_marked p m i h = rw (pool_slot p m i h) (by-mark (eqb (get_or m.marks i 0) 0))
+full_is_marked p m i h = rw (pool_slot p m i h) (by_mark (eqb (get_or m.marks i 0) 0))
   where
-    by-mark : (b : Bool) → is_some (cond b None (Some (page_at p m.bytes i))) ≡ not b
-    by-mark true = refl
-    by-mark false = refl
+    by_mark : (b : Bool) → is_some (cond b None (Some (page_at p m.bytes i))) ≡ not b
+    by_mark true = refl
+    by_mark false = refl
 
 pub full_slot : (p : ℕ) (m : Memory) (i : ℕ) → i < length m.marks → is_full (pool_of p m) i ≡ true → slot_of (pool_of p m) i ≡ Some (page_at p m.bytes i)
-full_slot p m i h t = pool_slot p m i h ∙ by-mark (eqb (get_or m.marks i 0) 0) (sym (full_is_marked p m i h) ∙ t)
+full_slot p m i h t = pool_slot p m i h ∙ by_mark (eqb (get_or m.marks i 0) 0) (sym (full_is_marked p m i h) ∙ t)
   where
-    by-mark : (b : Bool) → not b ≡ true → cond b None (Some (page_at p m.bytes i)) ≡ Some (page_at p m.bytes i)
-    by-mark true e = let z : ◌≡◌ {A = ℕ} 0 1 = cc in absurd (omega arith)
-    by-mark false e = refl
+    by_mark : (b : Bool) → not b ≡ true → cond b None (Some (page_at p m.bytes i)) ≡ Some (page_at p m.bytes i)
+    by_mark true e = let z : ◌≡◌ {A = ℕ} 0 1 = cc in absurd (omega arith)
+    by_mark false e = refl
 
 -- What each change of the memory makes of the store.
 

@@ -6,7 +6,7 @@ use Rattle.ordered_map.specs.Tree.{leaf, entries, one}
 use Rattle.ordered_map.specs.Table.{Rep, Kept, pairs_of, occs, Linked}
 use Rattle.ordered_map.proofs.Nths.{nth_set_same, nth_set_other}
 use Rattle.ordered_map.proofs.Bonds.{one_self, one_other}
-use Rattle.ordered_map.proofs.Lookups.{rep-tree}
+use Rattle.ordered_map.proofs.Lookups.{rep_tree}
 use Rattle.ordered_map.proofs.Enters.{chained_kept}
 
 pub linked_none : {K : Type 0} (ns : List (Node K)) → Linked ns (length ns) 65535
@@ -44,4 +44,4 @@ empty c ns free s l =
       level = tt;
       sorted = tt;
     } in
-    ((leaf, l.places, r), ap entries (rep-tree c ns 65535 free leaf l.places r))
+    ((leaf, l.places, r), ap entries (rep_tree c ns 65535 free leaf l.places r))

@@ -11,10 +11,10 @@ use Rattle.ordered_map.specs.Path.{Frame, fill, plug, occ_frames, tall, before, 
 use Rattle.ordered_map.specs.Enter.{put, Entered}
 use Rattle.ordered_map.proofs.Nths.{nth_in, nth_is, nth_set_same, nth_set_other}
 use Rattle.ordered_map.proofs.Bonds.{one_self, one_zero, size-bond}
-use Rattle.ordered_map.proofs.Lookups.{rep-tree, rep-low}
+use Rattle.ordered_map.proofs.Lookups.{rep_tree, rep_low}
 use Rattle.ordered_map.proofs.Rises.{occ-plug, framed_kept}
 use Rattle.ordered_map.proofs.Falls.{holds_plug, height-plug, level_plug, entries-plug}
-use Rattle.ordered_map.proofs.Sorted.{value-under, value-right}
+use Rattle.ordered_map.proofs.Sorted.{value_under, value_right}
 
 -- ---- lists
 
@@ -27,13 +27,13 @@ module _ {K : Type 0} (c : K → K → Ordering) (k : K) (v : ℕ) where
   put_is [] ys o u = put_under ys u
   put_is (x ∷ xs) ys o u = rw o.0 (ap (λ es. x ∷ es) (put_is xs ys o.1 u))
 
-  all-mid : (P : K × ℕ → Type 0) (xs ys : List (K × ℕ)) → P (k, v) → AllByRecursion P (xs ++ ys) → AllByRecursion P (xs ++ (k, v) ∷ ys)
-  all-mid P [] ys p h = (p, h)
-  all-mid P (x ∷ xs) ys p h = (h.0, all-mid P xs ys p h.1)
+  all_mid : (P : K × ℕ → Type 0) (xs ys : List (K × ℕ)) → P (k, v) → AllByRecursion P (xs ++ ys) → AllByRecursion P (xs ++ (k, v) ∷ ys)
+  all_mid P [] ys p h = (p, h)
+  all_mid P (x ∷ xs) ys p h = (h.0, all_mid P xs ys p h.1)
 
-  pub rises-put : Order c → (xs ys : List (K × ℕ)) → AllByRecursion (λ e. c k e.0 ≡ Greater) xs → AllByRecursion (λ e. c k e.0 ≡ Less) ys → Rises c (xs ++ ys) → Rises c (xs ++ (k, v) ∷ ys)
-  rises-put w [] ys o u r = (u, r)
-  rises-put w (x ∷ xs) ys o u r = (all-mid (λ d. c x.0 d.0 ≡ Less) xs ys (w.flip x.0 k ∙ ap ordering_reverse o.0) r.0, rises-put w xs ys o.1 u r.1)
+  pub rises_put : Order c → (xs ys : List (K × ℕ)) → AllByRecursion (λ e. c k e.0 ≡ Greater) xs → AllByRecursion (λ e. c k e.0 ≡ Less) ys → Rises c (xs ++ ys) → Rises c (xs ++ (k, v) ∷ ys)
+  rises_put w [] ys o u r = (u, r)
+  rises_put w (x ∷ xs) ys o u r = (all_mid (λ d. c x.0 d.0 ≡ Less) xs ys (w.flip x.0 k ∙ ap ordering_reverse o.0) r.0, rises_put w xs ys o.1 u r.1)
 
 pub length-entries : {K : Type 0} (t : Tree K) → length (entries t) ≡ size t
 length-entries leaf = refl
@@ -68,7 +68,7 @@ full_at c ns root free t (f ∷ fs) r e =
     absurd (omega arith)
 
 pub full : {K : Type 0} (c : K → K → Ordering) (ns : List (Node K)) (root free : ℕ) → Kept c ns root free → free ≡ 65535 → length (pairs_of ns root) ≡ length ns
-full c ns root free s e = ap (λ t. length (entries t)) (rep-tree c ns root free s.0 s.1 s.2) ∙ (length-entries s.0 ∙ full_at c ns root free s.0 s.1 s.2 e)
+full c ns root free s e = ap (λ t. length (entries t)) (rep_tree c ns root free s.0 s.1 s.2) ∙ (length-entries s.0 ∙ full_at c ns root free s.0 s.1 s.2 e)
 
 pub record Room {K : Type 0} (c : K → K → Ordering) (ns : List (Node K)) (root free : ℕ) : Type 0 where
   pub tree : Tree K
@@ -90,7 +90,7 @@ room c ns root free s = room_at c ns root free s.0 s.1 s.2
 
 module _ {K : Type 0} (c : K → K → Ordering) (w : Order c) (ns : List (Node K)) (root free : ℕ) (k : K) (v : ℕ) (m : Room c ns root free) (path : List Step) (d : ℕ) (l0 : Landed c (tree_of ns root) k path d) where
   is : tree_of ns root ≡ m.tree
-  is = rep-tree c ns root free m.tree (free ∷ m.rest) m.rep
+  is = rep_tree c ns root free m.tree (free ∷ m.rest) m.rep
 
   pub l : Landed c m.tree k path d
   l = subst (λ (t : Tree K). Landed c t k path d) is l0
@@ -109,7 +109,7 @@ module _ {K : Type 0} (c : K → K → Ordering) (w : Order c) (ns : List (Node 
       let hp = holds_plug ns l.frames leaf (subst (Holds ns) (sym l.whole) m.rep.held) in
       let lp = level_plug l.frames leaf (subst Balanced (sym l.whole) m.rep.level) in
       let th : height m.tree ≡ tall 0 l.frames = ap height (sym l.whole) ∙ height-plug l.frames leaf in
-      let lo = rep-low c ns root free m.tree (free ∷ m.rest) m.rep in
+      let lo = rep_low c ns root free m.tree (free ∷ m.rest) m.rep in
       record {
         deep = l.deep;
         on = l.on;
@@ -131,7 +131,7 @@ module _ {K : Type 0} (c : K → K → Ordering) (w : Order c) (ns : List (Node 
   list = ap entries (sym l.whole) ∙ entries-plug l.frames leaf
 
   pub absent : value_at c (pairs_of ns root) k ≡ None
-  absent = ap (λ es. value_at c es k) (ap entries is ∙ list) ∙ (value-right c k (before l.frames) (after l.frames) l.over ∙ value-under c k (after l.frames) l.under)
+  absent = ap (λ es. value_at c es k) (ap entries is ∙ list) ∙ (value_right c k (before l.frames) (after l.frames) l.over ∙ value_under c k (after l.frames) l.under)
 
   pub entered : (os : List (Node K)) (r : ℕ) (x : Node K) → x ≡ get_or ns free x → (high : ℕ) → Risen (set ns free (rec k v 65535 65535 1)) os r (plug l.frames (node free k v leaf leaf)) high → Entered c ns root k v os (Some (r, x.left))
   entered os r x xe high n =
@@ -157,11 +157,11 @@ module _ {K : Type 0} (c : K → K → Ordering) (w : Order c) (ns : List (Node 
         counted = omega arith;
         small = let b = m.rep.small in omega arith;
         level = n.level;
-        sorted = subst (Rises c) (sym es) (rises-put c k v w (before l.frames) (after l.frames) l.over l.under (subst (Rises c) list m.rep.sorted));
+        sorted = subst (Rises c) (sym es) (rises_put c k v w (before l.frames) (after l.frames) l.over l.under (subst (Rises c) list m.rep.sorted));
       } in (
         (n.tree, m.rest, rep),
         absent,
         (let a : length (pairs_of ns root) ≡ size m.tree = ap (λ t. length (entries t)) is ∙ length-entries m.tree in omega arith),
-        ap entries (rep-tree c os r x.left n.tree m.rest rep) ∙ (es ∙ (sym (put_is c k v (before l.frames) (after l.frames) l.over l.under) ∙ ap (λ es. put c es k v) (sym (ap entries is ∙ list)))),
+        ap entries (rep_tree c os r x.left n.tree m.rest rep) ∙ (es ∙ (sym (put_is c k v (before l.frames) (after l.frames) l.over l.under) ∙ ap (λ es. put c es k v) (sym (ap entries is ∙ list)))),
         omega arith,
       )

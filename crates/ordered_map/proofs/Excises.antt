@@ -15,18 +15,18 @@ module _ {K : Type 0} (ns : List (Node K)) (p : ℕ) (k : K) (v : ℕ) (l r : Tr
   here_in = nth_in ns p (rec k v (top l) (top r) (max (height l) (height r) + 1)) s.held.0
 
   module _ (x : Node K) (g : x ≡ get_or ns p x) where
-    x-is : x ≡ rec k v (top l) (top r) (max (height l) (height r) + 1)
-    x-is = g ∙ nth_is ns p (rec k v (top l) (top r) (max (height l) (height r) + 1)) x s.held.0
+    x_is : x ≡ rec k v (top l) (top r) (max (height l) (height r) + 1)
+    x_is = g ∙ nth_is ns p (rec k v (top l) (top r) (max (height l) (height r) + 1)) x s.held.0
 
     left_is : x.left ≡ top l
-    left_is = ap (λ (n : Node K). n.left) x-is
+    left_is = ap (λ (n : Node K). n.left) x_is
 
     right_is : x.right ≡ top r
-    right_is = ap (λ (n : Node K). n.right) x-is
+    right_is = ap (λ (n : Node K). n.right) x_is
 
-    no-right : (u : Tree K) → Holds ns u → x.right ≡ top u → x.right ≡ 65535 → u ≡ leaf
-    no-right leaf h e z = refl
-    no-right (node q i w a b) h e z =
+    no_right : (u : Tree K) → Holds ns u → x.right ≡ top u → x.right ≡ 65535 → u ≡ leaf
+    no_right leaf h e z = refl
+    no_right (node q i w a b) h e z =
         let n = nth_in ns q (rec i w (top a) (top b) (max (height a) (height b) + 1)) h.0 in
         let m = s.small in
         absurd (omega arith)
@@ -35,9 +35,9 @@ module _ {K : Type 0} (ns : List (Node K)) (p : ℕ) (k : K) (v : ℕ) (l r : Tr
     some_right leaf e ne = absurd (ne e)
     some_right (node q i w a b) e ne = omega arith
 
-    pub excised-leaf : x.right ≡ 65535 → Excised ns ns x.left p p k v l r
-    excised-leaf z =
-        let e : r ≡ leaf = no-right r s.held.2 right_is z in
+    pub excised_leaf : x.right ≡ 65535 → Excised ns ns x.left p p k v l r
+    excised_leaf z =
+        let e : r ≡ leaf = no_right r s.held.2 right_is z in
         let h : height r ≡ 0 = ap height e in
         let n : size r ≡ 0 = ap size e in
         record {
@@ -55,8 +55,8 @@ module _ {K : Type 0} (ns : List (Node K)) (p : ℕ) (k : K) (v : ℕ) (l r : Tr
         }
 
     module _ (ne : x.right ≡ 65535 → ⊥) where
-      pub right-stands : Standing ns x.right r
-      right-stands =
+      pub right_stands : Standing ns x.right r
+      right_stands =
           let lo = s.low in
           record { rooted = right_is; held = s.held.2; apart = λ q. let a = s.apart q in omega arith; level = s.level.3; low = omega arith; some = some_right r right_is ne; small = s.small }
 
@@ -64,8 +64,8 @@ module _ {K : Type 0} (ns : List (Node K)) (p : ℕ) (k : K) (v : ℕ) (l r : Tr
         off : occ p r ≡ 0
         off = let a = s.apart p in let b = one_self p in omega arith
 
-        pub least-in : least < length ms
-        least-in = nth_in ms least o.at o.lies
+        pub least_in : least < length ms
+        least_in = nth_in ms least o.at o.lies
 
         pub place_in : p < length ms
         place_in = let a = o.long in let b = here_in in omega arith
@@ -74,11 +74,11 @@ module _ {K : Type 0} (ns : List (Node K)) (p : ℕ) (k : K) (v : ℕ) (l r : Tr
           new : Node K
           new = record { key = y.key; value = y.value; left = x.left; right = x.right; height = x.height }
 
-          y-is : y ≡ o.at
-          y-is = f ∙ nth_is ms least o.at y o.lies
+          y_is : y ≡ o.at
+          y_is = f ∙ nth_is ms least o.at y o.lies
 
-          pub mend-it : Mendable (set ms p (record { key = y.key; value = y.value; left = x.left; right = x.right; height = x.height })) p false rest o.key o.value o.rest l
-          mend-it =
+          pub mend_it : Mendable (set ms p (record { key = y.key; value = y.value; left = x.left; right = x.right; height = x.height })) p false rest o.key o.value o.rest l
+          mend_it =
               let n : Node K = record { key = y.key; value = y.value; left = x.left; right = x.right; height = x.height } in
               let keep : (q : ℕ) → (q ≡ p → ⊥) → slice_get (set ms p n) q ≡ slice_get ms q = λ q d. nth_set_other ms p q n d in
               let z = off in
@@ -95,8 +95,8 @@ module _ {K : Type 0} (ns : List (Node K)) (p : ℕ) (k : K) (v : ℕ) (l r : Tr
                 loose = record {
                   at = n;
                   lies = nth_set_same ms p n place_in;
-                  keyed = ap (λ (m : Node K). m.key) y-is ∙ o.keyed;
-                  valued = ap (λ (m : Node K). m.value) y-is ∙ o.valued;
+                  keyed = ap (λ (m : Node K). m.key) y_is ∙ o.keyed;
+                  valued = ap (λ (m : Node K). m.value) y_is ∙ o.valued;
                   held_a = holds_off ms (set ms p n) o.rest p keep (omega arith) o.held;
                   held_b = holds_off ms (set ms p n) l p keep (omega arith)
                       (holds_kept ns ms l (λ q u. o.kept q (let a = s.apart q in omega arith)) s.held.1);
@@ -112,8 +112,8 @@ module _ {K : Type 0} (ns : List (Node K)) (p : ℕ) (k : K) (v : ℕ) (l r : Tr
                 small = let a = length-set ms p n in let d = o.long in let e = s.small in omega arith;
               }
 
-          pub excised-node : (os : List (Node K)) (t : ℕ) → Mended (set ms p (record { key = y.key; value = y.value; left = x.left; right = x.right; height = x.height })) os t (bond false p o.key o.value o.rest l) o.rest l → Excised ns os t least p k v l r
-          excised-node os t d =
+          pub excised_node : (os : List (Node K)) (t : ℕ) → Mended (set ms p (record { key = y.key; value = y.value; left = x.left; right = x.right; height = x.height })) os t (bond false p o.key o.value o.rest l) o.rest l → Excised ns os t least p k v l r
+          excised_node os t d =
               let n : Node K = record { key = y.key; value = y.value; left = x.left; right = x.right; height = x.height } in
               let m = d.made in
               let up = o.upper in

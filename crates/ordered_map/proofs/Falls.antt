@@ -12,8 +12,8 @@ use Rattle.ordered_map.specs.Edit.{bond}
 use Rattle.ordered_map.specs.Path.{Frame, fill, plug, step_at, OnPath, Framed, Fit, tall, before, after, Falling, Landed, Found}
 use Rattle.ordered_map.proofs.Nths.{nth_in, nth_is, nth_set_same, nth_set_other}
 use Rattle.ordered_map.proofs.Bonds.{height-bond, level_parts}
-use Rattle.ordered_map.proofs.Lookups.{rep-tree, rep-low}
-use Rattle.ordered_map.proofs.Sorted.{value-left, value-right, rises-left, rises-right, rises-mid, under-less, over-mid, over_equal, value-under, find-is}
+use Rattle.ordered_map.proofs.Lookups.{rep_tree, rep_low}
+use Rattle.ordered_map.proofs.Sorted.{value_left, value_right, rises_left, rises_right, rises_mid, under_less, over_mid, over_equal, value_under, find_is}
 
 -- ---- a tree under frames, taken apart
 
@@ -70,8 +70,8 @@ pub record Ground {K : Type 0} (c : K → K → Ordering) (ns : List (Node K)) (
 
 pub ground : {K : Type 0} (c : K → K → Ordering) (ns : List (Node K)) (root free : ℕ) → Kept c ns root free → Ground c ns (tree_of ns root)
 ground c ns root free s =
-    let e = rep-tree c ns root free s.0 s.1 s.2 in
-    subst (Ground c ns) (sym e) (record { held = s.2.held; low = rep-low c ns root free s.0 s.1 s.2; sorted = s.2.sorted; small = s.2.small })
+    let e = rep_tree c ns root free s.0 s.1 s.2 in
+    subst (Ground c ns) (sym e) (record { held = s.2.held; low = rep_low c ns root free s.0 s.1 s.2; sorted = s.2.sorted; small = s.2.small })
 
 pub falls_none : {K : Type 0} (c : K → K → Ordering) (t : Tree K) (k : K) (path : List Step) (root : ℕ) → root ≡ top t → Falling c t k path root 0
 falls_none c t k path root e = record { frames = []; here = t; at_is = e; whole = refl; deep = refl; on = tt; over = tt; under = tt }
@@ -81,8 +81,8 @@ module _ {K : Type 0} (c : K → K → Ordering) (w : Order c) (ns : List (Node 
   Fell x o = MatchOrdering o (Falling c t k (set path depth (step_at at true)) x.left (depth + 1)) ((is_some (value_at c (entries t) k) ≡ true) × Found c t k path depth at) (Falling c t k (set path depth (step_at at false)) x.right (depth + 1))
 
   module _ (fs : List (Frame K)) (dp : depth ≡ length fs) (on : OnPath path fs) (ov : AllByRecursion (λ e. c k e.0 ≡ Greater) (before fs)) (un : AllByRecursion (λ e. c k e.0 ≡ Less) (after fs)) (long : 14 ≤ length path) where
-    fell-node : (p : ℕ) (j : K) (v : ℕ) (l r : Tree K) (h : ℕ) (o : Ordering) → at ≡ p → depth < 14 → plug fs (node p j v l r) ≡ t → Rises c (entries l ++ (j, v) ∷ entries r) → c k j ≡ o → Fell (rec j v (top l) (top r) h) o
-    fell-node p j v l r h Less e dl pl ri o = record {
+    fell_node : (p : ℕ) (j : K) (v : ℕ) (l r : Tree K) (h : ℕ) (o : Ordering) → at ≡ p → depth < 14 → plug fs (node p j v l r) ≡ t → Rises c (entries l ++ (j, v) ∷ entries r) → c k j ≡ o → Fell (rec j v (top l) (top r) h) o
+    fell_node p j v l r h Less e dl pl ri o = record {
       frames = record { place = p; left = true; key = j; value = v; other = r } ∷ fs;
       here = l;
       at_is = refl;
@@ -90,13 +90,13 @@ module _ {K : Type 0} (c : K → K → Ordering) (w : Order c) (ns : List (Node 
       deep = omega arith;
       on = (ap (slice_get (set path depth (step_at at true))) (sym dp) ∙ (nth_set_same path depth (step_at at true) (omega arith) ∙ ap (λ q. Some (step_at q true)) e), onpath_set path fs depth (step_at at true) (omega arith) on);
       over = All-append (λ e. c k e.0 ≡ Greater) (before fs) [] ov tt;
-      under = (o, All-append (λ e. c k e.0 ≡ Less) (entries r) (after fs) (under-less c w k j (entries r) o (rises-right c (entries l) ((j, v) ∷ entries r) ri).0) un);
+      under = (o, All-append (λ e. c k e.0 ≡ Less) (entries r) (after fs) (under_less c w k j (entries r) o (rises_right c (entries l) ((j, v) ∷ entries r) ri).0) un);
     }
-    fell-node p j v l r h Equal e dl pl ri o =
+    fell_node p j v l r h Equal e dl pl ri o =
         let a : value_at c (entries t) k ≡ value_at c (before fs ++ (entries (node p j v l r) ++ after fs)) k = ap (λ es. value_at c es k) (ap entries (sym pl) ∙ entries-plug fs (node p j v l r)) in
-        let b = value-right c k (before fs) (entries (node p j v l r) ++ after fs) ov in
-        let d = value-left c k (entries (node p j v l r)) (after fs) un in
-        let f : find c (node p j v l r) k ≡ value_at c (entries (node p j v l r)) k = find-is c w (node p j v l r) k ri in
+        let b = value_right c k (before fs) (entries (node p j v l r) ++ after fs) ov in
+        let d = value_left c k (entries (node p j v l r)) (after fs) un in
+        let f : find c (node p j v l r) k ≡ value_at c (entries (node p j v l r)) k = find_is c w (node p j v l r) k ri in
         let y : find c (node p j v l r) k ≡ Some v = rw o refl in
         let kj = w.exact k j o in (
           ap is_some (a ∙ (b ∙ (d ∙ (sym f ∙ y)))),
@@ -110,23 +110,23 @@ module _ {K : Type 0} (c : K → K → Ordering) (w : Order c) (ns : List (Node 
             on = on;
             over = ov;
             same = ap (c k) kj ∙ o;
-            over_left = over_equal c w k j (entries l) o (rises-mid c (entries l) (j, v) (entries r) ri);
+            over_left = over_equal c w k j (entries l) o (rises_mid c (entries l) (j, v) (entries r) ri);
           },
         )
-    fell-node p j v l r h Greater e dl pl ri o = record {
+    fell_node p j v l r h Greater e dl pl ri o = record {
       frames = record { place = p; left = false; key = j; value = v; other = l } ∷ fs;
       here = r;
       at_is = refl;
       whole = pl;
       deep = omega arith;
       on = (ap (slice_get (set path depth (step_at at false))) (sym dp) ∙ (nth_set_same path depth (step_at at false) (omega arith) ∙ ap (λ q. Some (step_at q false)) e), onpath_set path fs depth (step_at at false) (omega arith) on);
-      over = All-append (λ e. c k e.0 ≡ Greater) (before fs) (entries l ++ (j, v) ∷ []) ov (All-append (λ e. c k e.0 ≡ Greater) (entries l) ((j, v) ∷ []) (over-mid c w k j (entries l) o (rises-mid c (entries l) (j, v) (entries r) ri)) (o, tt));
+      over = All-append (λ e. c k e.0 ≡ Greater) (before fs) (entries l ++ (j, v) ∷ []) ov (All-append (λ e. c k e.0 ≡ Greater) (entries l) ((j, v) ∷ []) (over_mid c w k j (entries l) o (rises_mid c (entries l) (j, v) (entries r) ri)) (o, tt));
       under = un;
     }
 
-    fall-at : (here : Tree K) → at ≡ top here → plug fs here ≡ t → (at ≡ 65535 → ⊥) → (at < length ns) × (depth < 14) × ((x : Node K) (o : Ordering) → x ≡ get_or ns at x → o ≡ c k x.key → Fell x o)
-    fall-at leaf e pl ne = absurd (ne e)
-    fall-at (node p j v l m) e pl ne =
+    fall_at : (here : Tree K) → at ≡ top here → plug fs here ≡ t → (at ≡ 65535 → ⊥) → (at < length ns) × (depth < 14) × ((x : Node K) (o : Ordering) → x ≡ get_or ns at x → o ≡ c k x.key → Fell x o)
+    fall_at leaf e pl ne = absurd (ne e)
+    fall_at (node p j v l m) e pl ne =
         let hp = holds_plug ns fs (node p j v l m) (subst (Holds ns) (sym pl) g.held) in
         let x : Node K = rec j v (top l) (top m) (max (height l) (height m) + 1) in
         let q : slice_get ns at ≡ Some x = ap (slice_get ns) e ∙ hp.1.0 in
@@ -135,29 +135,29 @@ module _ {K : Type 0} (c : K → K → Ordering) (w : Order c) (ns : List (Node 
         let lo = g.low in
         let dl : depth < 14 = omega arith in
         let ri : Rises c (before fs ++ (entries (node p j v l m) ++ after fs)) = subst (Rises c) (ap entries (sym pl) ∙ entries-plug fs (node p j v l m)) g.sorted in
-        let ri2 = rises-left c (entries (node p j v l m)) (after fs) (rises-right c (before fs) (entries (node p j v l m) ++ after fs) ri) in (
+        let ri2 = rises_left c (entries (node p j v l m)) (after fs) (rises_right c (before fs) (entries (node p j v l m) ++ after fs) ri) in (
           nth_in ns at x q,
           dl,
           λ y o r u.
               let z : y ≡ x = r ∙ nth_is ns at x y q in
               let uo : c k j ≡ o = sym (u ∙ ap (λ (n : Node K). c k n.key) z) in
-              subst (λ a. Fell a o) (sym z) (fell-node p j v l m (max (height l) (height m) + 1) o e dl pl ri2 uo),
+              subst (λ a. Fell a o) (sym z) (fell_node p j v l m (max (height l) (height m) + 1) o e dl pl ri2 uo),
         )
 
   pub fall : Falling c t k path at depth → 14 ≤ length path → (at ≡ 65535 → ⊥) → (at < length ns) × (depth < 14) × ((x : Node K) (o : Ordering) → x ≡ get_or ns at x → o ≡ c k x.key → Fell x o)
-  fall f long = fall-at f.frames f.deep f.on f.over f.under long f.here f.at_is f.whole
+  fall f long = fall_at f.frames f.deep f.on f.over f.under long f.here f.at_is f.whole
 
-  land-at : (fs : List (Frame K)) (here : Tree K) → at ≡ top here → plug fs here ≡ t → depth ≡ length fs → OnPath path fs → AllByRecursion (λ e. c k e.0 ≡ Greater) (before fs) → AllByRecursion (λ e. c k e.0 ≡ Less) (after fs) → at ≡ 65535 → Landed c t k path depth
-  land-at fs leaf e pl d on ov un z = record { frames = fs; whole = pl; deep = d; on = on; over = ov; under = un }
-  land-at fs (node p j v l r) e pl d on ov un z =
+  land_at : (fs : List (Frame K)) (here : Tree K) → at ≡ top here → plug fs here ≡ t → depth ≡ length fs → OnPath path fs → AllByRecursion (λ e. c k e.0 ≡ Greater) (before fs) → AllByRecursion (λ e. c k e.0 ≡ Less) (after fs) → at ≡ 65535 → Landed c t k path depth
+  land_at fs leaf e pl d on ov un z = record { frames = fs; whole = pl; deep = d; on = on; over = ov; under = un }
+  land_at fs (node p j v l r) e pl d on ov un z =
       let hp = holds_plug ns fs (node p j v l r) (subst (Holds ns) (sym pl) g.held) in
       let i = nth_in ns p (rec j v (top l) (top r) (max (height l) (height r) + 1)) hp.1.0 in
       let s = g.small in
       absurd (omega arith)
 
   pub land : Falling c t k path at depth → at ≡ 65535 → Landed c t k path depth
-  land f = land-at f.frames f.here f.at_is f.whole f.deep f.on f.over f.under
+  land f = land_at f.frames f.here f.at_is f.whole f.deep f.on f.over f.under
 
 pub landed_absent : {K : Type 0} (c : K → K → Ordering) (t : Tree K) (k : K) (path : List Step) (depth : ℕ) → Landed c t k path depth → value_at c (entries t) k ≡ None
 landed_absent c t k path depth l =
-    ap (λ es. value_at c es k) (ap entries (sym l.whole) ∙ entries-plug l.frames leaf) ∙ (value-right c k (before l.frames) (after l.frames) l.over ∙ value-under c k (after l.frames) l.under)
+    ap (λ es. value_at c es k) (ap entries (sym l.whole) ∙ entries-plug l.frames leaf) ∙ (value_right c k (before l.frames) (after l.frames) l.over ∙ value_under c k (after l.frames) l.under)

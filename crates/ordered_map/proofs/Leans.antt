@@ -4,7 +4,7 @@ use Rattle.ordered_map.specs.declared.node.Node.{Node}
 use Rattle.ordered_map.specs.Tree.{Tree, height, Balanced}
 use Rattle.ordered_map.specs.Edit.{ht, Joined, bond, Loose, Made, Glued, Leaning, Staged, Parted}
 use Rattle.ordered_map.proofs.Bonds.{top-bond, height-bond, ht-top, open_tree, ready, glue}
-use Rattle.ordered_map.proofs.Rotations.{single-1, single-2, single-3, double-1, double-2, double-3, double-4, parts}
+use Rattle.ordered_map.proofs.Rotations.{single_1, single_2, single_3, double_1, double_2, double_3, double_4, parts}
 
 pub heavy_in : {K : Type 0} (ns : List (Node K)) (p : ℕ) (s : Bool) (c other : ℕ) (k : K) (v : ℕ) (a b : Tree K) → Leaning ns p s c other k v a b → c < length ns
 heavy_in ns p s c other k v a b l =
@@ -15,138 +15,138 @@ heavy_in ns p s c other k v a b l =
     omega arith
 
 module _ {K : Type 0} (ns : List (Node K)) (p : ℕ) (s : Bool) (c other outer inner : ℕ) (k : K) (v : ℕ) (a b : Tree K) (t : Staged ns p s c other outer inner k v a b) where
-  inner-ht : ht ns inner ≡ height t.y
-  inner-ht = ap (ht ns) t.inner_is ∙ ht-top ns t.y t.small t.below.held_b
+  inner_ht : ht ns inner ≡ height t.y
+  inner_ht = ap (ht ns) t.inner_is ∙ ht-top ns t.y t.small t.below.held_b
 
-  outer-ht : ht ns outer ≡ height t.x
-  outer-ht = ap (ht ns) t.outer_is ∙ ht-top ns t.x t.small t.below.held_a
+  outer_ht : ht ns outer ≡ height t.x
+  outer_ht = ap (ht ns) t.outer_is ∙ ht-top ns t.x t.small t.below.held_a
 
   low_x : height t.x < 99
   low_x = let h = height-bond s c t.j t.w t.x t.y in let l = t.low in omega arith
 
-  low-y : height t.y < 99
-  low-y = let h = height-bond s c t.j t.w t.x t.y in let l = t.low in omega arith
+  low_y : height t.y < 99
+  low_y = let h = height-bond s c t.j t.w t.x t.y in let l = t.low in omega arith
 
-  low-b : height b < 99
-  low-b = let e = t.tilt in let l = t.low in omega arith
+  low_b : height b < 99
+  low_b = let e = t.tilt in let l = t.low in omega arith
 
-  loose-1 : Loose ns p k v t.y b
-  loose-1 = single-1 s ns p k v c t.j t.w t.x t.y b t.loose t.below
+  loose_1 : Loose ns p k v t.y b
+  loose_1 = single_1 s ns p k v c t.j t.w t.x t.y b t.loose t.below
 
-  pub single-ready-1 : (p < length ns) × (ht ns inner < 255) × (ht ns other < 255)
-  single-ready-1 =
-      let h = low-y in
-      let l = low-b in
-      ready ns p k v t.y b loose-1 t.small inner other t.inner_is t.other_is (omega arith) (omega arith)
+  pub single_ready_1 : (p < length ns) × (ht ns inner < 255) × (ht ns other < 255)
+  single_ready_1 =
+      let h = low_y in
+      let l = low_b in
+      ready ns p k v t.y b loose_1 t.small inner other t.inner_is t.other_is (omega arith) (omega arith)
 
   module _ (ms : List (Node K)) (j1 : Joined ns ms p s inner other) where
-    glued-1 : Glued ns ms s p k v t.y b
-    glued-1 = glue ns p k v t.y b loose-1 t.small ms s inner other t.inner_is t.other_is j1
+    glued_1 : Glued ns ms s p k v t.y b
+    glued_1 = glue ns p k v t.y b loose_1 t.small ms s inner other t.inner_is t.other_is j1
 
-    loose-2 : Loose ms c t.j t.w t.x (bond s p k v t.y b)
-    loose-2 = single-2 s ns p k v c t.j t.w t.x t.y b t.loose t.below ms glued-1
+    loose_2 : Loose ms c t.j t.w t.x (bond s p k v t.y b)
+    loose_2 = single_2 s ns p k v c t.j t.w t.x t.y b t.loose t.below ms glued_1
 
-    small-2 : length ms ≤ 1024
-    small-2 = let e = glued-1.long in let l = t.small in omega arith
+    small_2 : length ms ≤ 1024
+    small_2 = let e = glued_1.long in let l = t.small in omega arith
 
-    pub single-ready-2 : (c < length ms) × (ht ms outer < 255) × (ht ms p < 255)
-    single-ready-2 =
+    pub single_ready_2 : (c < length ms) × (ht ms outer < 255) × (ht ms p < 255)
+    single_ready_2 =
         let h = low_x in
-        let g = low-y in
-        let l = low-b in
+        let g = low_y in
+        let l = low_b in
         let e = height-bond s p k v t.y b in
-        ready ms c t.j t.w t.x (bond s p k v t.y b) loose-2 small-2 outer p t.outer_is (sym (top-bond s p k v t.y b)) (omega arith) (omega arith)
+        ready ms c t.j t.w t.x (bond s p k v t.y b) loose_2 small_2 outer p t.outer_is (sym (top-bond s p k v t.y b)) (omega arith) (omega arith)
 
-    pub single-made : (os : List (Node K)) → Joined ms os c s outer p → ht ns inner ≤ ht ns outer → Made ns os c (bond s p k v a b)
-    single-made os j2 le =
-        let i = inner-ht in
-        let o = outer-ht in
+    pub single_made : (os : List (Node K)) → Joined ms os c s outer p → ht ns inner ≤ ht ns outer → Made ns os c (bond s p k v a b)
+    single_made os j2 le =
+        let i = inner_ht in
+        let o = outer_ht in
         subst (λ (u : Tree K). Made ns os c (bond s p k v u b)) (sym t.is)
-        (single-3 s ns p k v c t.j t.w t.x t.y b t.loose t.below ms os glued-1
-        (glue ms c t.j t.w t.x (bond s p k v t.y b) loose-2 small-2 os s outer p t.outer_is (sym (top-bond s p k v t.y b)) j2)
+        (single_3 s ns p k v c t.j t.w t.x t.y b t.loose t.below ms os glued_1
+        (glue ms c t.j t.w t.x (bond s p k v t.y b) loose_2 small_2 os s outer p t.outer_is (sym (top-bond s p k v t.y b)) j2)
         t.level_a t.level_b t.tilt (omega arith))
 
   module _ (gt : ht ns outer < ht ns inner) where
-    pub inner-in : inner < length ns
-    inner-in =
-        let i = inner-ht in
+    pub inner_in : inner < length ns
+    inner_in =
+        let i = inner_ht in
         let o = open_tree ns s t.y (omega arith) t.below.held_b in
         let w = o.within in
         let e = t.inner_is in
         omega arith
 
-    pub inner-parts : (first second : ℕ) (r : Node K) → r ≡ get_or ns inner r → first ≡ cond s r.left r.right → second ≡ cond s r.right r.left → Parted ns s inner first second t.y
-    inner-parts first second r g fe se =
-        let i = inner-ht in
+    pub inner_parts : (first second : ℕ) (r : Node K) → r ≡ get_or ns inner r → first ≡ cond s r.left r.right → second ≡ cond s r.right r.left → Parted ns s inner first second t.y
+    inner_parts first second r g fe se =
+        let i = inner_ht in
         parts ns s inner first second t.y t.inner_is (omega arith) t.below.held_b (λ q. let h = t.below.apart q in omega arith) r g fe se
 
     module _ (first second : ℕ) (d : Parted ns s inner first second t.y) where
-      loose-p : Loose ns p k v (bond s c t.j t.w t.x (bond s inner d.i d.u d.x1 d.y1)) b
-      loose-p = subst (λ (y : Tree K). Loose ns p k v (bond s c t.j t.w t.x y) b) d.is t.loose
+      loose_p : Loose ns p k v (bond s c t.j t.w t.x (bond s inner d.i d.u d.x1 d.y1)) b
+      loose_p = subst (λ (y : Tree K). Loose ns p k v (bond s c t.j t.w t.x y) b) d.is t.loose
 
-      loose-c : Loose ns c t.j t.w t.x (bond s inner d.i d.u d.x1 d.y1)
-      loose-c = subst (λ (y : Tree K). Loose ns c t.j t.w t.x y) d.is t.below
+      loose_c : Loose ns c t.j t.w t.x (bond s inner d.i d.u d.x1 d.y1)
+      loose_c = subst (λ (y : Tree K). Loose ns c t.j t.w t.x y) d.is t.below
 
-      low-y1 : max (height d.x1) (height d.y1) < 98
-      low-y1 =
-          let h = low-y in
+      low_y1 : max (height d.x1) (height d.y1) < 98
+      low_y1 =
+          let h = low_y in
           let e : height t.y ≡ height (bond s inner d.i d.u d.x1 d.y1) = ap height d.is in
           let f = height-bond s inner d.i d.u d.x1 d.y1 in
           omega arith
 
-      loose-d1 : Loose ns c t.j t.w t.x d.x1
-      loose-d1 = double-1 s ns p k v c t.j t.w inner d.i d.u t.x d.x1 d.y1 b loose-p loose-c d.below
+      loose_d1 : Loose ns c t.j t.w t.x d.x1
+      loose_d1 = double_1 s ns p k v c t.j t.w inner d.i d.u t.x d.x1 d.y1 b loose_p loose_c d.below
 
-      pub double-ready-1 : (c < length ns) × (ht ns outer < 255) × (ht ns first < 255)
-      double-ready-1 =
+      pub double_ready_1 : (c < length ns) × (ht ns outer < 255) × (ht ns first < 255)
+      double_ready_1 =
           let h = low_x in
-          let g = low-y1 in
-          ready ns c t.j t.w t.x d.x1 loose-d1 t.small outer first t.outer_is d.first_is (omega arith) (omega arith)
+          let g = low_y1 in
+          ready ns c t.j t.w t.x d.x1 loose_d1 t.small outer first t.outer_is d.first_is (omega arith) (omega arith)
 
       module _ (ms : List (Node K)) (j1 : Joined ns ms c s outer first) where
-        glued-d1 : Glued ns ms s c t.j t.w t.x d.x1
-        glued-d1 = glue ns c t.j t.w t.x d.x1 loose-d1 t.small ms s outer first t.outer_is d.first_is j1
+        glued_d1 : Glued ns ms s c t.j t.w t.x d.x1
+        glued_d1 = glue ns c t.j t.w t.x d.x1 loose_d1 t.small ms s outer first t.outer_is d.first_is j1
 
-        loose-d2 : Loose ms p k v d.y1 b
-        loose-d2 = double-2 s ns p k v c t.j t.w inner d.i d.u t.x d.x1 d.y1 b loose-p loose-c d.below ms glued-d1
+        loose_d2 : Loose ms p k v d.y1 b
+        loose_d2 = double_2 s ns p k v c t.j t.w inner d.i d.u t.x d.x1 d.y1 b loose_p loose_c d.below ms glued_d1
 
-        small-d2 : length ms ≤ 1024
-        small-d2 = let e = glued-d1.long in let l = t.small in omega arith
+        small_d2 : length ms ≤ 1024
+        small_d2 = let e = glued_d1.long in let l = t.small in omega arith
 
-        pub double-ready-2 : (p < length ms) × (ht ms second < 255) × (ht ms other < 255)
-        double-ready-2 =
-            let h = low-b in
-            let g = low-y1 in
-            ready ms p k v d.y1 b loose-d2 small-d2 second other d.second_is t.other_is (omega arith) (omega arith)
+        pub double_ready_2 : (p < length ms) × (ht ms second < 255) × (ht ms other < 255)
+        double_ready_2 =
+            let h = low_b in
+            let g = low_y1 in
+            ready ms p k v d.y1 b loose_d2 small_d2 second other d.second_is t.other_is (omega arith) (omega arith)
 
         module _ (os : List (Node K)) (j2 : Joined ms os p s second other) where
-          glued-d2 : Glued ms os s p k v d.y1 b
-          glued-d2 = glue ms p k v d.y1 b loose-d2 small-d2 os s second other d.second_is t.other_is j2
+          glued_d2 : Glued ms os s p k v d.y1 b
+          glued_d2 = glue ms p k v d.y1 b loose_d2 small_d2 os s second other d.second_is t.other_is j2
 
-          loose-d3 : Loose os inner d.i d.u (bond s c t.j t.w t.x d.x1) (bond s p k v d.y1 b)
-          loose-d3 = double-3 s ns p k v c t.j t.w inner d.i d.u t.x d.x1 d.y1 b loose-p loose-c d.below ms os glued-d1 glued-d2
+          loose_d3 : Loose os inner d.i d.u (bond s c t.j t.w t.x d.x1) (bond s p k v d.y1 b)
+          loose_d3 = double_3 s ns p k v c t.j t.w inner d.i d.u t.x d.x1 d.y1 b loose_p loose_c d.below ms os glued_d1 glued_d2
 
-          small-d3 : length os ≤ 1024
-          small-d3 = let e = glued-d2.long in let l = small-d2 in omega arith
+          small_d3 : length os ≤ 1024
+          small_d3 = let e = glued_d2.long in let l = small_d2 in omega arith
 
-          pub double-ready-3 : (inner < length os) × (ht os c < 255) × (ht os p < 255)
-          double-ready-3 =
-              let h = low-b in
-              let g = low-y1 in
+          pub double_ready_3 : (inner < length os) × (ht os c < 255) × (ht os p < 255)
+          double_ready_3 =
+              let h = low_b in
+              let g = low_y1 in
               let x = low_x in
               let e = height-bond s c t.j t.w t.x d.x1 in
               let f = height-bond s p k v d.y1 b in
-              ready os inner d.i d.u (bond s c t.j t.w t.x d.x1) (bond s p k v d.y1 b) loose-d3 small-d3 c p (sym (top-bond s c t.j t.w t.x d.x1)) (sym (top-bond s p k v d.y1 b)) (omega arith) (omega arith)
+              ready os inner d.i d.u (bond s c t.j t.w t.x d.x1) (bond s p k v d.y1 b) loose_d3 small_d3 c p (sym (top-bond s c t.j t.w t.x d.x1)) (sym (top-bond s p k v d.y1 b)) (omega arith) (omega arith)
 
-          pub double-made : (rs : List (Node K)) → Joined os rs inner s c p → Made ns rs inner (bond s p k v a b)
-          double-made rs j3 =
-              let ih = inner-ht in
-              let oh = outer-ht in
+          pub double_made : (rs : List (Node K)) → Joined os rs inner s c p → Made ns rs inner (bond s p k v a b)
+          double_made rs j3 =
+              let ih = inner_ht in
+              let oh = outer_ht in
               let yh : height t.y ≡ height (bond s inner d.i d.u d.x1 d.y1) = ap height d.is in
               let whole : a ≡ bond s c t.j t.w t.x (bond s inner d.i d.u d.x1 d.y1) = t.is ∙ ap (bond s c t.j t.w t.x) d.is in
               subst (λ (u : Tree K). Made ns rs inner (bond s p k v u b)) (sym whole)
-              (double-4 s ns p k v c t.j t.w inner d.i d.u t.x d.x1 d.y1 b loose-p loose-c d.below ms os rs glued-d1 glued-d2
-              (glue os inner d.i d.u (bond s c t.j t.w t.x d.x1) (bond s p k v d.y1 b) loose-d3 small-d3 rs s c p (sym (top-bond s c t.j t.w t.x d.x1)) (sym (top-bond s p k v d.y1 b)) j3)
+              (double_4 s ns p k v c t.j t.w inner d.i d.u t.x d.x1 d.y1 b loose_p loose_c d.below ms os rs glued_d1 glued_d2
+              (glue os inner d.i d.u (bond s c t.j t.w t.x d.x1) (bond s p k v d.y1 b) loose_d3 small_d3 rs s c p (sym (top-bond s c t.j t.w t.x d.x1)) (sym (top-bond s p k v d.y1 b)) j3)
               (subst (λ (y : Tree K). Balanced (bond s c t.j t.w t.x y)) d.is t.level_a)
               t.level_b
               (ap (λ (y : Tree K). height (bond s c t.j t.w t.x y)) (sym d.is) ∙ t.tilt)

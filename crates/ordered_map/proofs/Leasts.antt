@@ -13,17 +13,17 @@ use Rattle.ordered_map.proofs.Falls.{holds_plug, height-plug, tall_deep, level_p
 use Rattle.ordered_map.proofs.Enters.{size-plug}
 
 module _ {K : Type 0} (ns : List (Node K)) (root : ℕ) (t : Tree K) (s : Standing ns root t) where
-  pub left-none : (path : List Step) → Leftward t path root 0
-  left-none path = record { frames = []; here = t; at_is = s.rooted; whole = refl; deep = refl; on = tt; first = refl; some = s.some }
+  pub left_none : (path : List Step) → Leftward t path root 0
+  left_none path = record { frames = []; here = t; at_is = s.rooted; whole = refl; deep = refl; on = tt; first = refl; some = s.some }
 
   module _ (path : List Step) (at depth : ℕ) (long : 14 ≤ length path) where
     abbrev Turn : Type 0
     Turn = (at < length ns) × ((x : Node K) → x ≡ get_or ns at x → (x.left ≡ 65535 → Lowest t path depth at) × ((x.left ≡ 65535 → ⊥) → (depth < 14) × Leftward t (set path depth (step_at at true)) x.left (depth + 1)))
 
     module _ (fs : List (Frame K)) (d : depth ≡ length fs) (on : OnPath path fs) (b : before fs ≡ []) (p : ℕ) (e : at ≡ p) (j : K) (v : ℕ) (x : Node K) where
-      no-left : (l r : Tree K) (h : ℕ) → x ≡ rec j v (top l) (top r) h → Holds ns l → plug fs (node p j v l r) ≡ t → x.left ≡ 65535 → Lowest t path depth at
-      no-left leaf r h xe hl pl z = record { frames = fs; key = j; value = v; right = r; whole = ap (λ q. plug fs (node q j v leaf r)) e ∙ pl; deep = d; on = on; first = b }
-      no-left (node q i u a c) r h xe hl pl z =
+      no_left : (l r : Tree K) (h : ℕ) → x ≡ rec j v (top l) (top r) h → Holds ns l → plug fs (node p j v l r) ≡ t → x.left ≡ 65535 → Lowest t path depth at
+      no_left leaf r h xe hl pl z = record { frames = fs; key = j; value = v; right = r; whole = ap (λ q. plug fs (node q j v leaf r)) e ∙ pl; deep = d; on = on; first = b }
+      no_left (node q i u a c) r h xe hl pl z =
           let n = nth_in ns q (rec i u (top a) (top c) (max (height a) (height c) + 1)) hl.0 in
           let y : x.left ≡ q = ap (λ (n : Node K). n.left) xe in
           let sm = s.small in
@@ -58,23 +58,23 @@ module _ {K : Type 0} (ns : List (Node K)) (root : ℕ) (t : Tree K) (s : Standi
           nth_in ns at y q,
           λ x g.
               let xe : x ≡ y = g ∙ nth_is ns at y x q in (
-                no-left fs d on b p e j v x l r (max (height l) (height r) + 1) xe hp.1.1 pl,
+                no_left fs d on b p e j v x l r (max (height l) (height r) + 1) xe hp.1.1 pl,
                 go_left fs d on b p e j v x l r (max (height l) (height r) + 1) xe pl dl,
               ),
         )
 
-    pub left-turn : Leftward t path at depth → (at < length ns) × ((x : Node K) → x ≡ get_or ns at x → (x.left ≡ 65535 → Lowest t path depth at) × ((x.left ≡ 65535 → ⊥) → (depth < 14) × Leftward t (set path depth (step_at at true)) x.left (depth + 1)))
-    left-turn w = left_at w.frames w.here w.at_is w.whole w.deep w.on w.first w.some
+    pub left_turn : Leftward t path at depth → (at < length ns) × ((x : Node K) → x ≡ get_or ns at x → (x.left ≡ 65535 → Lowest t path depth at) × ((x.left ≡ 65535 → ⊥) → (depth < 14) × Leftward t (set path depth (step_at at true)) x.left (depth + 1)))
+    left_turn w = left_at w.frames w.here w.at_is w.whole w.deep w.on w.first w.some
 
   module _ (path : List Step) (depth place : ℕ) (l : Lowest t path depth place) where
     lies : slice_get ns place ≡ Some (rec l.key l.value 65535 (top l.right) (max 0 (height l.right) + 1))
     lies = (holds_plug ns l.frames (node place l.key l.value leaf l.right) (subst (Holds ns) (sym l.whole) s.held)).1.0
 
-    pub least-in : place < length ns
-    least-in = nth_in ns place (rec l.key l.value 65535 (top l.right) (max 0 (height l.right) + 1)) lies
+    pub least_in : place < length ns
+    least_in = nth_in ns place (rec l.key l.value 65535 (top l.right) (max 0 (height l.right) + 1)) lies
 
-    occ-t : (q : ℕ) → occ q t ≡ one q place + (occ q l.right + occ_frames q l.frames)
-    occ-t q =
+    occ_t : (q : ℕ) → occ q t ≡ one q place + (occ q l.right + occ_frames q l.frames)
+    occ_t q =
         let a = occ-plug q l.frames (node place l.key l.value leaf l.right) in
         let b : occ q t ≡ occ q (plug l.frames (node place l.key l.value leaf l.right)) = ap (occ q) (sym l.whole) in
         omega arith
@@ -84,8 +84,8 @@ module _ {K : Type 0} (ns : List (Node K)) (root : ℕ) (t : Tree K) (s : Standi
         let e : height (node place l.key l.value leaf l.right) ≡ height l.right + 1 = omega arith in
         ap height (sym l.whole) ∙ (height-plug l.frames (node place l.key l.value leaf l.right) ∙ ap (λ h. tall h l.frames) e)
 
-    pub least-rising : (x : Node K) → x ≡ get_or ns place x → Rising ns path depth x.right l.frames l.right (height l.right + 1)
-    least-rising x g =
+    pub least_rising : (x : Node K) → x ≡ get_or ns place x → Rising ns path depth x.right l.frames l.right (height l.right + 1)
+    least_rising x g =
         let hp = holds_plug ns l.frames (node place l.key l.value leaf l.right) (subst (Holds ns) (sym l.whole) s.held) in
         let lp = level_plug l.frames (node place l.key l.value leaf l.right) (subst Balanced (sym l.whole) s.level) in
         let e : height (node place l.key l.value leaf l.right) ≡ height l.right + 1 = omega arith in
@@ -97,7 +97,7 @@ module _ {K : Type 0} (ns : List (Node K)) (root : ℕ) (t : Tree K) (s : Standi
           at_is = ap (λ (n : Node K). n.right) (g ∙ nth_is ns place (rec l.key l.value 65535 (top l.right) (max 0 (height l.right) + 1)) x lies);
           framed = hp.0;
           held = hp.1.2;
-          apart = λ q. let a = occ-t q in let b = s.apart q in omega arith;
+          apart = λ q. let a = occ_t q in let b = s.apart q in omega arith;
           level = lp.1.3;
           fit = subst (λ h. Fit h l.frames) e lp.0;
           upper = omega arith;
@@ -118,7 +118,7 @@ module _ {K : Type 0} (ns : List (Node K)) (root : ℕ) (t : Tree K) (s : Standi
           value = l.value;
           rest = n.tree;
           at = rec l.key l.value 65535 (top l.right) (max 0 (height l.right) + 1);
-          lies = n.kept place (let a = occ-t place in let b = s.apart place in let d = op place in omega arith) ∙ lies;
+          lies = n.kept place (let a = occ_t place in let b = s.apart place in let d = op place in omega arith) ∙ lies;
           keyed = refl;
           valued = refl;
           rooted = n.at;
@@ -129,7 +129,7 @@ module _ {K : Type 0} (ns : List (Node K)) (root : ℕ) (t : Tree K) (s : Standi
               ∙ (ap (λ es. es ++ ((l.key, l.value) ∷ (entries l.right ++ after l.frames))) l.first
               ∙ ap (λ es. (l.key, l.value) ∷ es)
               (sym (n.like.pairs ∙ (entries-plug l.frames l.right ∙ ap (λ es. es ++ (entries l.right ++ after l.frames)) l.first)))));
-          places = λ q. let a = occ-t q in let b = n.like.places q in let d = op q in omega arith;
+          places = λ q. let a = occ_t q in let b = n.like.places q in let d = op q in omega arith;
           count =
               let a = size-plug l.frames l.right (node place l.key l.value leaf l.right) (omega arith) in
               let b : size t ≡ size (plug l.frames (node place l.key l.value leaf l.right)) = ap size (sym l.whole) in
@@ -138,6 +138,6 @@ module _ {K : Type 0} (ns : List (Node K)) (root : ℕ) (t : Tree K) (s : Standi
           level = n.level;
           upper = omega arith;
           lower = omega arith;
-          kept = λ q z. let a = occ-t q in let d = op q in n.kept q (omega arith);
+          kept = λ q z. let a = occ_t q in let d = op q in n.kept q (omega arith);
           long = n.long;
         }

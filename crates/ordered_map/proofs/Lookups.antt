@@ -9,7 +9,7 @@ use Rattle.ordered_map.specs.Tree.{Tree, leaf, node, top, height, entries, Rises
 use Rattle.ordered_map.specs.Table.{rec, Holds, tree_at, Going, Rep, Kept, tree_of, pairs_of}
 use Rattle.ordered_map.proofs.Nths.{nth_in, nth_is}
 use Rattle.ordered_map.proofs.Heights.{low, steps_low}
-use Rattle.ordered_map.proofs.Sorted.{find-is}
+use Rattle.ordered_map.proofs.Sorted.{find_is}
 
 -- ---- the tree that a table holds is the one that its function gives
 
@@ -29,10 +29,10 @@ module _ {K : Type 0} (c : K → K → Ordering) (ns : List (Node K)) (t : Tree 
   abbrev pub Turned : Node K → Ordering → Type 0
   Turned x o = MatchOrdering o (Going c ns t k x.left (n + 1)) ((Some x.value ≡ find c t k) × (n + 1 ≡ steps c t k)) (Going c ns t k x.right (n + 1))
 
-  turn-node : (p : ℕ) (j : K) (v : ℕ) (l r : Tree K) (h : ℕ) (o : Ordering) → Holds ns l → Holds ns r → by_order o (find c l k) (Some v) (find c r k) ≡ find c t k → n + (by_order o (steps c l k) 0 (steps c r k) + 1) ≡ steps c t k → Turned (rec j v (top l) (top r) h) o
-  turn-node p j v l r h Less hl hr f s = record { here = l; stands = refl; held = hl; finds = f; counts = omega arith }
-  turn-node p j v l r h Equal hl hr f s = (f, omega arith)
-  turn-node p j v l r h Greater hl hr f s = record { here = r; stands = refl; held = hr; finds = f; counts = omega arith }
+  turn_node : (p : ℕ) (j : K) (v : ℕ) (l r : Tree K) (h : ℕ) (o : Ordering) → Holds ns l → Holds ns r → by_order o (find c l k) (Some v) (find c r k) ≡ find c t k → n + (by_order o (steps c l k) 0 (steps c r k) + 1) ≡ steps c t k → Turned (rec j v (top l) (top r) h) o
+  turn_node p j v l r h Less hl hr f s = record { here = l; stands = refl; held = hl; finds = f; counts = omega arith }
+  turn_node p j v l r h Equal hl hr f s = (f, omega arith)
+  turn_node p j v l r h Greater hl hr f s = record { here = r; stands = refl; held = hr; finds = f; counts = omega arith }
 
   turn_at : (here : Tree K) → at ≡ top here → Holds ns here → find c here k ≡ find c t k → n + steps c here k ≡ steps c t k → (at ≡ 65535 → ⊥) → (at < length ns) × ((x : Node K) (o : Ordering) → x ≡ get_or ns at x → o ≡ c k x.key → Turned x o)
   turn_at leaf e h f s ne = absurd (ne e)
@@ -43,7 +43,7 @@ module _ {K : Type 0} (c : K → K → Ordering) (ns : List (Node K)) (t : Tree 
         λ y o r w.
             let z : y ≡ x = r ∙ nth_is ns at x y q in
             let u : o ≡ c k j = w ∙ ap (λ (y : Node K). c k y.key) z in
-            subst (λ a. Turned a o) (sym z) (turn-node p j v l m (max (height l) (height m) + 1) o h.1 h.2 (rw u f) (rw u s)),
+            subst (λ a. Turned a o) (sym z) (turn_node p j v l m (max (height l) (height m) + 1) o h.1 h.2 (rw u f) (rw u s)),
       )
 
   pub turn : Going c ns t k at n → (at ≡ 65535 → ⊥) → (at < length ns) × ((x : Node K) (o : Ordering) → x ≡ get_or ns at x → o ≡ c k x.key → Turned x o)
@@ -58,21 +58,21 @@ module _ {K : Type 0} (c : K → K → Ordering) (ns : List (Node K)) (t : Tree 
   pub ended : Going c ns t k at n → at ≡ 65535 → length ns ≤ 1024 → (None ≡ find c t k) × (n ≡ steps c t k)
   ended w = ended_at w.here w.stands w.held w.finds w.counts
 
-  pub more-steps : Going c ns t k at n → n ≤ steps c t k
-  more-steps w = let s = w.counts in omega arith
+  pub more_steps : Going c ns t k at n → n ≤ steps c t k
+  more_steps w = let s = w.counts in omega arith
 
 module _ {K : Type 0} (c : K → K → Ordering) (ns : List (Node K)) (root free : ℕ) where
-  pub rep-low : (t : Tree K) (fs : List ℕ) → Rep c ns root free t fs → height t ≤ 14
-  rep-low t fs r = let a = r.counted in let b = r.small in low t r.level (omega arith)
+  pub rep_low : (t : Tree K) (fs : List ℕ) → Rep c ns root free t fs → height t ≤ 14
+  rep_low t fs r = let a = r.counted in let b = r.small in low t r.level (omega arith)
 
-  pub rep-tree : (t : Tree K) (fs : List ℕ) → Rep c ns root free t fs → tree_of ns root ≡ t
-  rep-tree t fs r =
+  pub rep_tree : (t : Tree K) (fs : List ℕ) → Rep c ns root free t fs → tree_of ns root ≡ t
+  rep_tree t fs r =
       let b = r.small in
-      ap (tree_at 14 ns) r.rooted ∙ tree_is 14 ns t (omega arith) r.held (rep-low t fs r)
+      ap (tree_at 14 ns) r.rooted ∙ tree_is 14 ns t (omega arith) r.held (rep_low t fs r)
 
   pub start : Kept c ns root free → (k : K) → Going c ns (tree_of ns root) k root 0
   start s k =
-      let e = rep-tree s.0 s.1 s.2 in
+      let e = rep_tree s.0 s.1 s.2 in
       record {
         here = tree_of ns root;
         stands = s.2.rooted ∙ ap top (sym e);
@@ -81,12 +81,12 @@ module _ {K : Type 0} (c : K → K → Ordering) (ns : List (Node K)) (root free
         counts = omega arith;
       }
 
-  pub sound-steps : Kept c ns root free → (k : K) → steps c (tree_of ns root) k ≤ 14
-  sound-steps s k =
-      let e = rep-tree s.0 s.1 s.2 in
+  pub sound_steps : Kept c ns root free → (k : K) → steps c (tree_of ns root) k ≤ 14
+  sound_steps s k =
+      let e = rep_tree s.0 s.1 s.2 in
       let h = steps_low c s.0 k in
-      let g = rep-low s.0 s.1 s.2 in
+      let g = rep_low s.0 s.1 s.2 in
       rw e (omega arith)
 
-  pub sound-find : Order c → Kept c ns root free → (k : K) → find c (tree_of ns root) k ≡ value_at c (pairs_of ns root) k
-  sound-find w s k = find-is c w (tree_of ns root) k (subst (λ t. Rises c (entries t)) (sym (rep-tree s.0 s.1 s.2)) s.2.sorted)
+  pub sound_find : Order c → Kept c ns root free → (k : K) → find c (tree_of ns root) k ≡ value_at c (pairs_of ns root) k
+  sound_find w s k = find_is c w (tree_of ns root) k (subst (λ t. Rises c (entries t)) (sym (rep_tree s.0 s.1 s.2)) s.2.sorted)

@@ -15,36 +15,36 @@ module _ {K : Type 0} (ns : List (Node K)) (p : ℕ) (s : Bool) (near : ℕ) (k 
   pub place_in : p < length ns
   place_in = nth_in ns p m.loose.at m.loose.lies
 
-  pub near-ht : ht ns near ≡ height a
-  near-ht = ap (ht ns) m.near_is ∙ ht-top ns a m.small m.loose.held_a
+  pub near_ht : ht ns near ≡ height a
+  near_ht = ap (ht ns) m.near_is ∙ ht-top ns a m.small m.loose.held_a
 
   module _ (r : Node K) (g : r ≡ get_or ns p r) (far : ℕ) (e : far ≡ cond s r.right r.left) where
-    far-top : far ≡ top b
-    far-top = e ∙ (ap (λ (n : Node K). cond s n.right n.left) (g ∙ nth_is ns p m.loose.at r m.loose.lies) ∙ m.far_is)
+    far_top : far ≡ top b
+    far_top = e ∙ (ap (λ (n : Node K). cond s n.right n.left) (g ∙ nth_is ns p m.loose.at r m.loose.lies) ∙ m.far_is)
 
-    pub far-ht : ht ns far ≡ height b
-    far-ht = ap (ht ns) far-top ∙ ht-top ns b m.small m.loose.held_b
+    pub far_ht : ht ns far ≡ height b
+    far_ht = ap (ht ns) far_top ∙ ht-top ns b m.small m.loose.held_b
 
-    pub low-hts : ht ns near + ht ns far < 90
-    low-hts = let x = near-ht in let y = far-ht in let l = m.low in omega arith
+    pub low_hts : ht ns near + ht ns far < 90
+    low_hts = let x = near_ht in let y = far_ht in let l = m.low in omega arith
 
-    pub lean-near : ht ns far + 1 < ht ns near → Leaning ns p s near far k v a b
-    lean-near h =
-        let x = near-ht in
-        let y = far-ht in
+    pub lean_near : ht ns far + 1 < ht ns near → Leaning ns p s near far k v a b
+    lean_near h =
+        let x = near_ht in
+        let y = far_ht in
         let l = m.low in
         let n = m.near_low in
-        record { loose = m.loose; heavy_is = m.near_is; other_is = far-top; level_a = m.level_a; level_b = m.level_b; tilt = omega arith; low = omega arith; small = m.small }
+        record { loose = m.loose; heavy_is = m.near_is; other_is = far_top; level_a = m.level_a; level_b = m.level_b; tilt = omega arith; low = omega arith; small = m.small }
 
-    pub lean-far : ht ns near + 1 < ht ns far → Leaning ns p (not s) far near k v b a
-    lean-far h =
-        let x = near-ht in
-        let y = far-ht in
+    pub lean_far : ht ns near + 1 < ht ns far → Leaning ns p (not s) far near k v b a
+    lean_far h =
+        let x = near_ht in
+        let y = far_ht in
         let l = m.low in
         let n = m.far_low in
         record {
           loose = record { at = m.loose.at; lies = m.loose.lies; keyed = m.loose.keyed; valued = m.loose.valued; held_a = m.loose.held_b; held_b = m.loose.held_a; apart = λ q. let u = m.loose.apart q in omega arith };
-          heavy_is = far-top;
+          heavy_is = far_top;
           other_is = m.near_is;
           level_a = m.level_b;
           level_b = m.level_a;
@@ -53,25 +53,25 @@ module _ {K : Type 0} (ns : List (Node K)) (p : ℕ) (s : Bool) (near : ℕ) (k 
           small = m.small;
         }
 
-    pub join-ready : (p < length ns) × (ht ns near < 255) × (ht ns far < 255)
-    join-ready =
+    pub join_ready : (p < length ns) × (ht ns near < 255) × (ht ns far < 255)
+    join_ready =
         let l = m.low in
-        ready ns p k v a b m.loose m.small near far m.near_is far-top (omega arith) (omega arith)
+        ready ns p k v a b m.loose m.small near far m.near_is far_top (omega arith) (omega arith)
 
-    pub mended-near : (ms : List (Node K)) (o : ℕ) → ht ns far + 1 < ht ns near → Made ns ms o (bond s p k v a b) → Mended ns ms o (bond s p k v a b) a b
-    mended-near ms o h d = let x = near-ht in let y = far-ht in record { made = d; even = λ u w. absurd (omega arith) }
+    pub mended_near : (ms : List (Node K)) (o : ℕ) → ht ns far + 1 < ht ns near → Made ns ms o (bond s p k v a b) → Mended ns ms o (bond s p k v a b) a b
+    mended_near ms o h d = let x = near_ht in let y = far_ht in record { made = d; even = λ u w. absurd (omega arith) }
 
-    pub mended-far : (ms : List (Node K)) (o : ℕ) → ht ns near + 1 < ht ns far → Made ns ms o (bond (not s) p k v b a) → Mended ns ms o (bond s p k v a b) a b
-    mended-far ms o h d =
-        let x = near-ht in
-        let y = far-ht in
+    pub mended_far : (ms : List (Node K)) (o : ℕ) → ht ns near + 1 < ht ns far → Made ns ms o (bond (not s) p k v b a) → Mended ns ms o (bond s p k v a b) a b
+    mended_far ms o h d =
+        let x = near_ht in
+        let y = far_ht in
         record { made = subst (Made ns ms o) (bond_flip s p k v a b) d; even = λ u w. absurd (omega arith) }
 
-    pub mended-even : (ms : List (Node K)) → ht ns near ≤ ht ns far + 1 → ht ns far ≤ ht ns near + 1 → Joined ns ms p s near far → Mended ns ms p (bond s p k v a b) a b
-    mended-even ms h i j =
-        let x = near-ht in
-        let y = far-ht in
-        let g = glue ns p k v a b m.loose m.small ms s near far m.near_is far-top j in
+    pub mended_even : (ms : List (Node K)) → ht ns near ≤ ht ns far + 1 → ht ns far ≤ ht ns near + 1 → Joined ns ms p s near far → Mended ns ms p (bond s p k v a b) a b
+    mended_even ms h i j =
+        let x = near_ht in
+        let y = far_ht in
+        let g = glue ns p k v a b m.loose m.small ms s near far m.near_is far_top j in
         record {
           made = record {
             tree = bond s p k v a b;

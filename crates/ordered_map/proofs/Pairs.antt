@@ -4,7 +4,7 @@ use Rattle.std.specs.Ordering.{ordering_reverse, match_ordering as by_order}
 use Rattle.ordered_map.specs.Order.{Order}
 use Rattle.ordered_map.specs.Tree.{Rises, value_at}
 use Rattle.ordered_map.specs.Enter.{put, cut}
-use Rattle.ordered_map.proofs.Sorted.{Under, value-under, under-less}
+use Rattle.ordered_map.proofs.Sorted.{Under, value_under, under_less}
 
 self_by : (o : Ordering) → o ≡ ordering_reverse o → o ≡ Equal
 self_by Less e = absurd (let z : ◌≡◌ {A = ℕ} 0 1 = cc in omega arith)
@@ -23,72 +23,72 @@ module _ {K : Type 0} (c : K → K → Ordering) (w : Order c) where
 
   -- ---- put
 
-  long-step : (o : Ordering) (p e : K × ℕ) (es ps : List (K × ℕ)) (x : Option ℕ) → by_order o x (Some e.1) x ≡ None → (x ≡ None → length ps ≡ length es + 1) → length (by_order o (p ∷ e ∷ es) (e ∷ es) (e ∷ ps)) ≡ length (e ∷ es) + 1
-  long-step Less p e es ps x h f = omega arith
-  long-step Equal p e es ps x h f = absurd (let z : ◌≡◌ {A = ℕ} 0 1 = cc in omega arith)
-  long-step Greater p e es ps x h f = let i = f h in omega arith
+  long_step : (o : Ordering) (p e : K × ℕ) (es ps : List (K × ℕ)) (x : Option ℕ) → by_order o x (Some e.1) x ≡ None → (x ≡ None → length ps ≡ length es + 1) → length (by_order o (p ∷ e ∷ es) (e ∷ es) (e ∷ ps)) ≡ length (e ∷ es) + 1
+  long_step Less p e es ps x h f = omega arith
+  long_step Equal p e es ps x h f = absurd (let z : ◌≡◌ {A = ℕ} 0 1 = cc in omega arith)
+  long_step Greater p e es ps x h f = let i = f h in omega arith
 
   pub length-put : (es : List (K × ℕ)) (k : K) (v : ℕ) → value_at c es k ≡ None → length (put c es k v) ≡ length es + 1
   length-put [] k v h = omega arith
-  length-put (e ∷ es) k v h = long-step (c k e.0) (k, v) e es (put c es k v) (value_at c es k) h (length-put es k v)
+  length-put (e ∷ es) k v h = long_step (c k e.0) (k, v) e es (put c es k v) (value_at c es k) h (length-put es k v)
 
   gets_step : (o : Ordering) (k : K) (v : ℕ) (e : K × ℕ) (es ps : List (K × ℕ)) → c k e.0 ≡ o → by_order o (value_at c es k) (Some e.1) (value_at c es k) ≡ None → (value_at c es k ≡ None → value_at c ps k ≡ Some v) → value_at c (by_order o ((k, v) ∷ e ∷ es) (e ∷ es) (e ∷ ps)) k ≡ Some v
   gets_step Less k v e es ps q h f = rw (self k) refl
   gets_step Equal k v e es ps q h f = absurd (let z : ◌≡◌ {A = ℕ} 0 1 = cc in omega arith)
   gets_step Greater k v e es ps q h f = rw q (f h)
 
-  pub put-gets : (es : List (K × ℕ)) (k : K) (v : ℕ) → value_at c es k ≡ None → value_at c (put c es k v) k ≡ Some v
-  put-gets [] k v h = rw (self k) refl
-  put-gets (e ∷ es) k v h = gets_step (c k e.0) k v e es (put c es k v) refl h (put-gets es k v)
+  pub put_gets : (es : List (K × ℕ)) (k : K) (v : ℕ) → value_at c es k ≡ None → value_at c (put c es k v) k ≡ Some v
+  put_gets [] k v h = rw (self k) refl
+  put_gets (e ∷ es) k v h = gets_step (c k e.0) k v e es (put c es k v) refl h (put_gets es k v)
 
-  others-step : (o : Ordering) (k : K) (v : ℕ) (j : K) (e : K × ℕ) (es ps : List (K × ℕ)) → (j ≡ k → ⊥) → value_at c ps j ≡ value_at c es j → value_at c (by_order o ((k, v) ∷ e ∷ es) (e ∷ es) (e ∷ ps)) j ≡ value_at c (e ∷ es) j
-  others-step Less k v j e es ps ne f = skip j k ne (value_at c (e ∷ es) j) (Some v) (c j k) refl
-  others-step Equal k v j e es ps ne f = refl
-  others-step Greater k v j e es ps ne f = ap (λ x. by_order (c j e.0) x (Some e.1) x) f
+  others_step : (o : Ordering) (k : K) (v : ℕ) (j : K) (e : K × ℕ) (es ps : List (K × ℕ)) → (j ≡ k → ⊥) → value_at c ps j ≡ value_at c es j → value_at c (by_order o ((k, v) ∷ e ∷ es) (e ∷ es) (e ∷ ps)) j ≡ value_at c (e ∷ es) j
+  others_step Less k v j e es ps ne f = skip j k ne (value_at c (e ∷ es) j) (Some v) (c j k) refl
+  others_step Equal k v j e es ps ne f = refl
+  others_step Greater k v j e es ps ne f = ap (λ x. by_order (c j e.0) x (Some e.1) x) f
 
-  pub put-others : (es : List (K × ℕ)) (k : K) (v : ℕ) (j : K) → (j ≡ k → ⊥) → value_at c (put c es k v) j ≡ value_at c es j
-  put-others [] k v j ne = skip j k ne None (Some v) (c j k) refl
-  put-others (e ∷ es) k v j ne = others-step (c k e.0) k v j e es (put c es k v) ne (put-others es k v j ne)
+  pub put_others : (es : List (K × ℕ)) (k : K) (v : ℕ) (j : K) → (j ≡ k → ⊥) → value_at c (put c es k v) j ≡ value_at c es j
+  put_others [] k v j ne = skip j k ne None (Some v) (c j k) refl
+  put_others (e ∷ es) k v j ne = others_step (c k e.0) k v j e es (put c es k v) ne (put_others es k v j ne)
 
   -- ---- cut
 
-  absent-step : (o : Ordering) (e : K × ℕ) (es ps : List (K × ℕ)) (x : Option ℕ) → by_order o x (Some e.1) x ≡ None → (x ≡ None → ps ≡ es) → by_order o (e ∷ es) es (e ∷ ps) ≡ e ∷ es
-  absent-step Less e es ps x h f = refl
-  absent-step Equal e es ps x h f = absurd (let z : ◌≡◌ {A = ℕ} 0 1 = cc in omega arith)
-  absent-step Greater e es ps x h f = ap (λ ys. e ∷ ys) (f h)
+  absent_step : (o : Ordering) (e : K × ℕ) (es ps : List (K × ℕ)) (x : Option ℕ) → by_order o x (Some e.1) x ≡ None → (x ≡ None → ps ≡ es) → by_order o (e ∷ es) es (e ∷ ps) ≡ e ∷ es
+  absent_step Less e es ps x h f = refl
+  absent_step Equal e es ps x h f = absurd (let z : ◌≡◌ {A = ℕ} 0 1 = cc in omega arith)
+  absent_step Greater e es ps x h f = ap (λ ys. e ∷ ys) (f h)
 
-  pub cut-absent : (es : List (K × ℕ)) (k : K) → value_at c es k ≡ None → cut c es k ≡ es
-  cut-absent [] k h = refl
-  cut-absent (e ∷ es) k h = absent-step (c k e.0) e es (cut c es k) (value_at c es k) h (cut-absent es k)
+  pub cut_absent : (es : List (K × ℕ)) (k : K) → value_at c es k ≡ None → cut c es k ≡ es
+  cut_absent [] k h = refl
+  cut_absent (e ∷ es) k h = absent_step (c k e.0) e es (cut c es k) (value_at c es k) h (cut_absent es k)
 
   kept_step : (o : Ordering) (k j : K) (e : K × ℕ) (es ps : List (K × ℕ)) → c k e.0 ≡ o → (j ≡ k → ⊥) → value_at c ps j ≡ value_at c es j → value_at c (by_order o (e ∷ es) es (e ∷ ps)) j ≡ value_at c (e ∷ es) j
   kept_step Less k j e es ps q ne f = refl
   kept_step Equal k j e es ps q ne f = sym (skip j e.0 (λ d. ne (d ∙ sym (w.exact k e.0 q))) (value_at c es j) (Some e.1) (c j e.0) refl)
   kept_step Greater k j e es ps q ne f = ap (λ x. by_order (c j e.0) x (Some e.1) x) f
 
-  pub cut-others : (es : List (K × ℕ)) (k j : K) → (j ≡ k → ⊥) → value_at c (cut c es k) j ≡ value_at c es j
-  cut-others [] k j ne = refl
-  cut-others (e ∷ es) k j ne = kept_step (c k e.0) k j e es (cut c es k) refl ne (cut-others es k j ne)
+  pub cut_others : (es : List (K × ℕ)) (k j : K) → (j ≡ k → ⊥) → value_at c (cut c es k) j ≡ value_at c es j
+  cut_others [] k j ne = refl
+  cut_others (e ∷ es) k j ne = kept_step (c k e.0) k j e es (cut c es k) refl ne (cut_others es k j ne)
 
-  under-equal : (k : K) (e : K × ℕ) (es : List (K × ℕ)) → c k e.0 ≡ Equal → Under c e.0 es → Under c k es
-  under-equal k e es q h = subst (λ (x : K). Under c x es) (sym (w.exact k e.0 q)) h
+  under_equal : (k : K) (e : K × ℕ) (es : List (K × ℕ)) → c k e.0 ≡ Equal → Under c e.0 es → Under c k es
+  under_equal k e es q h = subst (λ (x : K). Under c x es) (sym (w.exact k e.0 q)) h
 
-  gone-step : (o : Ordering) (k : K) (e : K × ℕ) (es ps : List (K × ℕ)) → c k e.0 ≡ o → Under c e.0 es → value_at c ps k ≡ None → value_at c (by_order o (e ∷ es) es (e ∷ ps)) k ≡ None
-  gone-step Less k e es ps q u f = value-under c k (e ∷ es) (q, under-less c w k e.0 es q u)
-  gone-step Equal k e es ps q u f = value-under c k es (under-equal k e es q u)
-  gone-step Greater k e es ps q u f = rw q f
+  gone_step : (o : Ordering) (k : K) (e : K × ℕ) (es ps : List (K × ℕ)) → c k e.0 ≡ o → Under c e.0 es → value_at c ps k ≡ None → value_at c (by_order o (e ∷ es) es (e ∷ ps)) k ≡ None
+  gone_step Less k e es ps q u f = value_under c k (e ∷ es) (q, under_less c w k e.0 es q u)
+  gone_step Equal k e es ps q u f = value_under c k es (under_equal k e es q u)
+  gone_step Greater k e es ps q u f = rw q f
 
-  pub cut-gone : (es : List (K × ℕ)) (k : K) → Rises c es → value_at c (cut c es k) k ≡ None
-  cut-gone [] k r = refl
-  cut-gone (e ∷ es) k r = gone-step (c k e.0) k e es (cut c es k) refl r.0 (cut-gone es k r.1)
+  pub cut_gone : (es : List (K × ℕ)) (k : K) → Rises c es → value_at c (cut c es k) k ≡ None
+  cut_gone [] k r = refl
+  cut_gone (e ∷ es) k r = gone_step (c k e.0) k e es (cut c es k) refl r.0 (cut_gone es k r.1)
 
-  short-step : (o : Ordering) (k : K) (e : K × ℕ) (es ps : List (K × ℕ)) → c k e.0 ≡ o → Under c e.0 es → is_some (by_order o (value_at c es k) (Some e.1) (value_at c es k)) ≡ true → (is_some (value_at c es k) ≡ true → length ps + 1 ≡ length es) → length (by_order o (e ∷ es) es (e ∷ ps)) + 1 ≡ length (e ∷ es)
-  short-step Less k e es ps q u h f =
-      let n = value-under c k es (under-less c w k e.0 es q u) in
+  short_step : (o : Ordering) (k : K) (e : K × ℕ) (es ps : List (K × ℕ)) → c k e.0 ≡ o → Under c e.0 es → is_some (by_order o (value_at c es k) (Some e.1) (value_at c es k)) ≡ true → (is_some (value_at c es k) ≡ true → length ps + 1 ≡ length es) → length (by_order o (e ∷ es) es (e ∷ ps)) + 1 ≡ length (e ∷ es)
+  short_step Less k e es ps q u h f =
+      let n = value_under c k es (under_less c w k e.0 es q u) in
       absurd (let z : ◌≡◌ {A = Bool} false true = ap is_some (sym n) ∙ h in let y : ◌≡◌ {A = ℕ} 0 1 = cc in omega arith)
-  short-step Equal k e es ps q u h f = omega arith
-  short-step Greater k e es ps q u h f = let i = f h in omega arith
+  short_step Equal k e es ps q u h f = omega arith
+  short_step Greater k e es ps q u h f = let i = f h in omega arith
 
   pub length_cut : (es : List (K × ℕ)) (k : K) → Rises c es → is_some (value_at c es k) ≡ true → length (cut c es k) + 1 ≡ length es
   length_cut [] k r h = absurd (let y : ◌≡◌ {A = ℕ} 0 1 = cc in omega arith)
-  length_cut (e ∷ es) k r h = short-step (c k e.0) k e es (cut c es k) refl r.0 h (length_cut es k r.1)
+  length_cut (e ∷ es) k r h = short_step (c k e.0) k e es (cut c es k) refl r.0 h (length_cut es k r.1)

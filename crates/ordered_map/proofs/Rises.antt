@@ -90,8 +90,8 @@ module _ {K : Type 0} (ns : List (Node K)) (path : List Step) (at : ℕ) (f : Fr
         small = r.small;
       }
 
-  pub risen-one : (ms : List (Node K)) (o : ℕ) (d : Mended ns ms o (fill f t) t f.other) → Rising ms path (length fs) o fs d.made.tree (max h (height f.other) + 1)
-  risen-one ms o d =
+  pub risen_one : (ms : List (Node K)) (o : ℕ) (d : Mended ns ms o (fill f t) t f.other) → Rising ms path (length fs) o fs d.made.tree (max h (height f.other) + 1)
+  risen_one ms o d =
       let m = d.made in
       let up = r.upper in
       let lo = r.lower in
@@ -137,43 +137,43 @@ pub begin : {K : Type 0} (ns : List (Node K)) (path : List Step) (i at : ℕ) (f
 begin ns path i at fs t h r = record { frames = fs; tree = t; hole = h; rising = r; tall_is = refl; like = record { pairs = refl; count = refl; places = λ q. refl }; kept = λ q z. refl; long = refl }
 
 module _ {K : Type 0} (ns ms : List (Node K)) (path : List Step) (i at : ℕ) (u : Tree K) (high : ℕ) where
-  onward-at : (fs : List (Frame K)) (t : Tree K) (h : ℕ) → Rising ms path i at fs t h → tall h fs ≡ high → Like u (plug fs t) → ((q : ℕ) → occ q u ≡ 0 → slice_get ms q ≡ slice_get ns q) → length ms ≡ length ns → 0 < i → Onward ns ms path i at u high
-  onward-at [] t h r e l k g z = let d = r.deep in absurd (omega arith)
-  onward-at (f ∷ fs) t h r e l k g z = record { frame = f; rest = fs; tree = t; hole = h; rising = r; tall_is = e; like = l; kept = k; long = g }
+  onward_at : (fs : List (Frame K)) (t : Tree K) (h : ℕ) → Rising ms path i at fs t h → tall h fs ≡ high → Like u (plug fs t) → ((q : ℕ) → occ q u ≡ 0 → slice_get ms q ≡ slice_get ns q) → length ms ≡ length ns → 0 < i → Onward ns ms path i at u high
+  onward_at [] t h r e l k g z = let d = r.deep in absurd (omega arith)
+  onward_at (f ∷ fs) t h r e l k g z = record { frame = f; rest = fs; tree = t; hole = h; rising = r; tall_is = e; like = l; kept = k; long = g }
 
   pub onward : Climbing ns ms path i at u high → 0 < i → Onward ns ms path i at u high
-  onward w = onward-at w.frames w.tree w.hole w.rising w.tall_is w.like w.kept w.long
+  onward w = onward_at w.frames w.tree w.hole w.rising w.tall_is w.like w.kept w.long
 
-  finish-at : (fs : List (Frame K)) (t : Tree K) (h : ℕ) → Rising ms path i at fs t h → tall h fs ≡ high → Like u (plug fs t) → ((q : ℕ) → occ q u ≡ 0 → slice_get ms q ≡ slice_get ns q) → length ms ≡ length ns → i ≤ 0 → Risen ns ms at u high
-  finish-at [] t h r e l k g z = record { tree = t; at = r.at_is; held = r.held; like = l; upper = let a = r.upper in omega arith; lower = let a = r.lower in omega arith; level = r.level; kept = k; long = g }
-  finish-at (f ∷ fs) t h r e l k g z = let d = r.deep in absurd (omega arith)
+  finish_at : (fs : List (Frame K)) (t : Tree K) (h : ℕ) → Rising ms path i at fs t h → tall h fs ≡ high → Like u (plug fs t) → ((q : ℕ) → occ q u ≡ 0 → slice_get ms q ≡ slice_get ns q) → length ms ≡ length ns → i ≤ 0 → Risen ns ms at u high
+  finish_at [] t h r e l k g z = record { tree = t; at = r.at_is; held = r.held; like = l; upper = let a = r.upper in omega arith; lower = let a = r.lower in omega arith; level = r.level; kept = k; long = g }
+  finish_at (f ∷ fs) t h r e l k g z = let d = r.deep in absurd (omega arith)
 
   pub finish : Climbing ns ms path i at u high → i ≤ 0 → Risen ns ms at u high
-  finish w = finish-at w.frames w.tree w.hole w.rising w.tall_is w.like w.kept w.long
+  finish w = finish_at w.frames w.tree w.hole w.rising w.tall_is w.like w.kept w.long
 
   module _ (w : Onward ns ms path i at u high) where
     before : i - 1 ≡ length w.rest
     before = let d = w.rising.deep in omega arith
 
-    step-lies : slice_get path (i - 1) ≡ Some (step_of w.frame)
-    step-lies = ap (slice_get path) before ∙ w.rising.on.0
+    step_lies : slice_get path (i - 1) ≡ Some (step_of w.frame)
+    step_lies = ap (slice_get path) before ∙ w.rising.on.0
 
     pub step_in : i - 1 < length path
-    step_in = nth_in path (i - 1) (step_of w.frame) step-lies
+    step_in = nth_in path (i - 1) (step_of w.frame) step_lies
 
     pub step_is : (d : Step) → get_or path (i - 1) d ≡ step_of w.frame
-    step_is d = nth_is path (i - 1) (step_of w.frame) d step-lies
+    step_is d = nth_is path (i - 1) (step_of w.frame) d step_lies
 
     module _ (x : Step) (e : x ≡ step_of w.frame) where
-      pub mend-ready : Mendable ms x.place x.left at w.frame.key w.frame.value w.tree w.frame.other
-      mend-ready =
+      pub mend_ready : Mendable ms x.place x.left at w.frame.key w.frame.value w.tree w.frame.other
+      mend_ready =
           subst (λ (y : Step). Mendable ms y.place y.left at w.frame.key w.frame.value w.tree w.frame.other) (sym e)
           (mendable ms path at w.frame w.rest w.tree w.hole i w.rising)
 
       pub climbed : (os : List (Node K)) (o : ℕ) → Mended ms os o (bond x.left x.place w.frame.key w.frame.value w.tree w.frame.other) w.tree w.frame.other → Climbing ns os path (i - 1) o u high
       climbed os o d0 =
           let d : Mended ms os o (fill w.frame w.tree) w.tree w.frame.other = subst (λ (y : Step). Mended ms os o (bond y.left y.place w.frame.key w.frame.value w.tree w.frame.other) w.tree w.frame.other) e d0 in
-          let r = risen-one ms path at w.frame w.rest w.tree w.hole i w.rising os o d in
+          let r = risen_one ms path at w.frame w.rest w.tree w.hole i w.rising os o d in
           record {
             frames = w.rest;
             tree = d.made.tree;

@@ -28,21 +28,21 @@ module _ {K : Type 0} (s : Bool) (ns : List (Node K)) (p : ℕ) (k : K) (v : ℕ
   apart : (q : ℕ) → one q p + (one q c + (occ q x + occ q y) + occ q b) ≤ 1
   apart q = let h = l.apart q in let e = occ-bond q s c j w x y in omega arith
 
-  c-p : c ≡ p → ⊥
-  c-p = one_zero c p (let h = apart c in let o = one_self c in omega arith)
+  c_p : c ≡ p → ⊥
+  c_p = one_zero c p (let h = apart c in let o = one_self c in omega arith)
 
-  pub single-1 : Loose ns p k v y b
-  single-1 = rekey ns ns p k v _ _ y b l refl z.held_b l.held_b (λ q. let h = apart q in omega arith)
+  pub single_1 : Loose ns p k v y b
+  single_1 = rekey ns ns p k v _ _ y b l refl z.held_b l.held_b (λ q. let h = apart q in omega arith)
 
-  pub single-2 : (ms : List (Node K)) → Glued ns ms s p k v y b → Loose ms c j w x (bond s p k v y b)
-  single-2 ms g =
-      rekey ns ms c j w x y x (bond s p k v y b) z (g.kept c c-p)
+  pub single_2 : (ms : List (Node K)) → Glued ns ms s p k v y b → Loose ms c j w x (bond s p k v y b)
+  single_2 ms g =
+      rekey ns ms c j w x y x (bond s p k v y b) z (g.kept c c_p)
       (holds_off ns ms x p g.kept (let h = apart p in let o = one_self p in omega arith) z.held_a)
       g.held
       (λ q. let h = apart q in let e = occ-bond q s p k v y b in omega arith)
 
-  pub single-3 : (ms os : List (Node K)) → Glued ns ms s p k v y b → Glued ms os s c j w x (bond s p k v y b) → Balanced (bond s c j w x y) → Balanced b → height (bond s c j w x y) ≡ height b + 2 → height y ≤ height x → Made ns os c (bond s p k v (bond s c j w x y) b)
-  single-3 ms os g f la lb t le =
+  pub single_3 : (ms os : List (Node K)) → Glued ns ms s p k v y b → Glued ms os s c j w x (bond s p k v y b) → Balanced (bond s c j w x y) → Balanced b → height (bond s c j w x y) ≡ height b + 2 → height y ≤ height x → Made ns os c (bond s p k v (bond s c j w x y) b)
+  single_3 ms os g f la lb t le =
       let lp = level_parts s c j w x y la in
       let h1 = height-bond s c j w x y in
       let h2 = height-bond s p k v y b in
@@ -83,39 +83,39 @@ module _ {K : Type 0} (s : Bool) (ns : List (Node K)) (p : ℕ) (k : K) (v : ℕ
   apart2 : (q : ℕ) → one q p + (one q c + (occ q x + (one q m + (occ q x1 + occ q y1))) + occ q b) ≤ 1
   apart2 q = let h = l.apart q in let e = occ-bond q s c j w x (bond s m i u x1 y1) in let f = occ-bond q s m i u x1 y1 in omega arith
 
-  p-c : p ≡ c → ⊥
-  p-c = one_zero p c (let h = apart2 p in let o = one_self p in omega arith)
+  p_c : p ≡ c → ⊥
+  p_c = one_zero p c (let h = apart2 p in let o = one_self p in omega arith)
 
-  m-c : m ≡ c → ⊥
-  m-c = one_zero m c (let h = apart2 m in let o = one_self m in omega arith)
+  m_c : m ≡ c → ⊥
+  m_c = one_zero m c (let h = apart2 m in let o = one_self m in omega arith)
 
-  m-p : m ≡ p → ⊥
-  m-p = one_zero m p (let h = apart2 m in let o = one_self m in omega arith)
+  m_p : m ≡ p → ⊥
+  m_p = one_zero m p (let h = apart2 m in let o = one_self m in omega arith)
 
-  pub double-1 : Loose ns c j w x x1
-  double-1 = rekey ns ns c j w _ _ x x1 z refl z.held_a n.held_a (λ q. let h = apart2 q in omega arith)
+  pub double_1 : Loose ns c j w x x1
+  double_1 = rekey ns ns c j w _ _ x x1 z refl z.held_a n.held_a (λ q. let h = apart2 q in omega arith)
 
-  pub double-2 : (ms : List (Node K)) → Glued ns ms s c j w x x1 → Loose ms p k v y1 b
-  double-2 ms g =
+  pub double_2 : (ms : List (Node K)) → Glued ns ms s c j w x x1 → Loose ms p k v y1 b
+  double_2 ms g =
       let h = apart2 c in
       let o = one_self c in
-      rekey ns ms p k v _ _ y1 b l (g.kept p p-c)
+      rekey ns ms p k v _ _ y1 b l (g.kept p p_c)
       (holds_off ns ms y1 c g.kept (omega arith) n.held_b)
       (holds_off ns ms b c g.kept (omega arith) l.held_b)
       (λ q. let h = apart2 q in omega arith)
 
-  pub double-3 : (ms os : List (Node K)) → Glued ns ms s c j w x x1 → Glued ms os s p k v y1 b → Loose os m i u (bond s c j w x x1) (bond s p k v y1 b)
-  double-3 ms os g f =
+  pub double_3 : (ms os : List (Node K)) → Glued ns ms s c j w x x1 → Glued ms os s p k v y1 b → Loose os m i u (bond s c j w x x1) (bond s p k v y1 b)
+  double_3 ms os g f =
       let h = apart2 p in
       let o = one_self p in
       let e = occ-bond p s c j w x x1 in
-      rekey ns os m i u x1 y1 (bond s c j w x x1) (bond s p k v y1 b) n (f.kept m m-p ∙ g.kept m m-c)
+      rekey ns os m i u x1 y1 (bond s c j w x x1) (bond s p k v y1 b) n (f.kept m m_p ∙ g.kept m m_c)
       (holds_off ms os (bond s c j w x x1) p f.kept (omega arith) g.held)
       f.held
       (λ q. let h = apart2 q in let e = occ-bond q s c j w x x1 in let d = occ-bond q s p k v y1 b in omega arith)
 
-  pub double-4 : (ms os rs : List (Node K)) → Glued ns ms s c j w x x1 → Glued ms os s p k v y1 b → Glued os rs s m i u (bond s c j w x x1) (bond s p k v y1 b) → Balanced (bond s c j w x (bond s m i u x1 y1)) → Balanced b → height (bond s c j w x (bond s m i u x1 y1)) ≡ height b + 2 → height x < height (bond s m i u x1 y1) → Made ns rs m (bond s p k v (bond s c j w x (bond s m i u x1 y1)) b)
-  double-4 ms os rs g f d la lb t le =
+  pub double_4 : (ms os rs : List (Node K)) → Glued ns ms s c j w x x1 → Glued ms os s p k v y1 b → Glued os rs s m i u (bond s c j w x x1) (bond s p k v y1 b) → Balanced (bond s c j w x (bond s m i u x1 y1)) → Balanced b → height (bond s c j w x (bond s m i u x1 y1)) ≡ height b + 2 → height x < height (bond s m i u x1 y1) → Made ns rs m (bond s p k v (bond s c j w x (bond s m i u x1 y1)) b)
+  double_4 ms os rs g f d la lb t le =
       let y : Tree K = bond s m i u x1 y1 in
       let lp = level_parts s c j w x y la in
       let lq = level_parts s m i u x1 y1 lp.3 in

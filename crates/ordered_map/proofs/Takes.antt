@@ -11,11 +11,11 @@ use Rattle.ordered_map.specs.Enter.{cut, Taken}
 use Rattle.ordered_map.proofs.Nths.{nth_in, nth_set_same, nth_set_other}
 use Rattle.ordered_map.proofs.Bonds.{one_self, one_zero, one_other, holds_off}
 use Rattle.std.proofs.lemmas.Bool.{cases_lt}
-use Rattle.ordered_map.proofs.Lookups.{rep-tree, rep-low}
+use Rattle.ordered_map.proofs.Lookups.{rep_tree, rep_low}
 use Rattle.ordered_map.proofs.Rises.{occ-plug, framed_kept, tall_up}
 use Rattle.ordered_map.proofs.Falls.{holds_plug, height-plug, level_plug, entries-plug}
 use Rattle.ordered_map.proofs.Enters.{size-plug, chained_kept}
-use Rattle.ordered_map.proofs.Sorted.{value-right}
+use Rattle.ordered_map.proofs.Sorted.{value_right}
 
 occ_in : {K : Type 0} (ns : List (Node K)) (q : ℕ) (t : Tree K) → Holds ns t → length ns ≤ q → occ q t ≡ 0
 occ_in ns q leaf h u = refl
@@ -27,24 +27,24 @@ occ_in ns q (node p k v l r) h u =
     omega arith
 
 module _ {K : Type 0} (c : K → K → Ordering) (k : K) (v : ℕ) where
-  cut-is : (xs ys : List (K × ℕ)) → AllByRecursion (λ e. c k e.0 ≡ Greater) xs → c k k ≡ Equal → cut c (xs ++ (k, v) ∷ ys) k ≡ xs ++ ys
-  cut-is [] ys o e = rw e refl
-  cut-is (x ∷ xs) ys o e = rw o.0 (ap (λ es. x ∷ es) (cut-is xs ys o.1 e))
+  cut_is : (xs ys : List (K × ℕ)) → AllByRecursion (λ e. c k e.0 ≡ Greater) xs → c k k ≡ Equal → cut c (xs ++ (k, v) ∷ ys) k ≡ xs ++ ys
+  cut_is [] ys o e = rw e refl
+  cut_is (x ∷ xs) ys o e = rw o.0 (ap (λ es. x ∷ es) (cut_is xs ys o.1 e))
 
-  all-less : (P : K × ℕ → Type 0) (xs ys : List (K × ℕ)) → AllByRecursion P (xs ++ (k, v) ∷ ys) → AllByRecursion P (xs ++ ys)
-  all-less P [] ys h = h.1
-  all-less P (x ∷ xs) ys h = (h.0, all-less P xs ys h.1)
+  all_less : (P : K × ℕ → Type 0) (xs ys : List (K × ℕ)) → AllByRecursion P (xs ++ (k, v) ∷ ys) → AllByRecursion P (xs ++ ys)
+  all_less P [] ys h = h.1
+  all_less P (x ∷ xs) ys h = (h.0, all_less P xs ys h.1)
 
-  rises-cut : (xs ys : List (K × ℕ)) → Rises c (xs ++ (k, v) ∷ ys) → Rises c (xs ++ ys)
-  rises-cut [] ys h = h.1
-  rises-cut (x ∷ xs) ys h = (all-less (λ d. c x.0 d.0 ≡ Less) xs ys h.0, rises-cut xs ys h.1)
+  rises_cut : (xs ys : List (K × ℕ)) → Rises c (xs ++ (k, v) ∷ ys) → Rises c (xs ++ ys)
+  rises_cut [] ys h = h.1
+  rises_cut (x ∷ xs) ys h = (all_less (λ d. c x.0 d.0 ≡ Less) xs ys h.0, rises_cut xs ys h.1)
 
 module _ {K : Type 0} (c : K → K → Ordering) (ns : List (Node K)) (root free : ℕ) (k : K) (s : Kept c ns root free) (path : List Step) (depth place : ℕ) (f0 : Found c (tree_of ns root) k path depth place) where
   t : Tree K
   t = s.0
 
   is : tree_of ns root ≡ s.0
-  is = rep-tree c ns root free s.0 s.1 s.2
+  is = rep_tree c ns root free s.0 s.1 s.2
 
   pub f : Found c s.0 k path depth place
   f = subst (λ (t : Tree K). Found c t k path depth place) is f0
@@ -52,11 +52,11 @@ module _ {K : Type 0} (c : K → K → Ordering) (ns : List (Node K)) (root free
   pub here : Tree K
   here = node place k f.value f.left f.right
 
-  occ-all : (q : ℕ) → occ q s.0 ≡ occ q (node place k f.value f.left f.right) + occ_frames q f.frames
-  occ-all q = ap (occ q) (sym f.whole) ∙ occ-plug q f.frames (node place k f.value f.left f.right)
+  occ_all : (q : ℕ) → occ q s.0 ≡ occ q (node place k f.value f.left f.right) + occ_frames q f.frames
+  occ_all q = ap (occ q) (sym f.whole) ∙ occ-plug q f.frames (node place k f.value f.left f.right)
 
-  tall-all : height s.0 ≡ tall (height (node place k f.value f.left f.right)) f.frames
-  tall-all = ap height (sym f.whole) ∙ height-plug f.frames (node place k f.value f.left f.right)
+  tall_all : height s.0 ≡ tall (height (node place k f.value f.left f.right)) f.frames
+  tall_all = ap height (sym f.whole) ∙ height-plug f.frames (node place k f.value f.left f.right)
 
   hp : Framed ns f.frames × Holds ns (node place k f.value f.left f.right)
   hp = holds_plug ns f.frames (node place k f.value f.left f.right) (subst (Holds ns) (sym f.whole) s.2.held)
@@ -64,13 +64,13 @@ module _ {K : Type 0} (c : K → K → Ordering) (ns : List (Node K)) (root free
   pub standing : Standing ns place (node place k f.value f.left f.right)
   standing =
       let lp = level_plug f.frames (node place k f.value f.left f.right) (subst Balanced (sym f.whole) s.2.level) in
-      let lo = rep-low c ns root free s.0 s.1 s.2 in
-      let ta = tall-all in
+      let lo = rep_low c ns root free s.0 s.1 s.2 in
+      let ta = tall_all in
       let tu = tall_up (height (node place k f.value f.left f.right)) f.frames in
       record {
         rooted = refl;
         held = hp.1;
-        apart = λ q. let a = occ-all q in let b = s.2.apart q in omega arith;
+        apart = λ q. let a = occ_all q in let b = s.2.apart q in omega arith;
         level = lp.1;
         low = omega arith;
         some = omega arith;
@@ -81,15 +81,15 @@ module _ {K : Type 0} (c : K → K → Ordering) (ns : List (Node K)) (root free
     pub rising : Rising ms path depth child f.frames e.tree (height (node place k f.value f.left f.right))
     rising =
         let lp = level_plug f.frames (node place k f.value f.left f.right) (subst Balanced (sym f.whole) s.2.level) in
-        let lo = rep-low c ns root free s.0 s.1 s.2 in
-        let ta = tall-all in
+        let lo = rep_low c ns root free s.0 s.1 s.2 in
+        let ta = tall_all in
         record {
           deep = f.deep;
           on = f.on;
           at_is = e.rooted;
-          framed = framed_kept ns ms f.frames (λ q u. e.kept q (let a = occ-all q in let b = s.2.apart q in omega arith)) hp.0;
+          framed = framed_kept ns ms f.frames (λ q u. e.kept q (let a = occ_all q in let b = s.2.apart q in omega arith)) hp.0;
           held = e.held;
-          apart = λ q. let a = occ-all q in let b = s.2.apart q in let d = e.places q in omega arith;
+          apart = λ q. let a = occ_all q in let b = s.2.apart q in let d = e.places q in omega arith;
           level = e.level;
           fit = lp.0;
           upper = e.upper;
@@ -98,14 +98,14 @@ module _ {K : Type 0} (c : K → K → Ordering) (ns : List (Node K)) (root free
           small = let a = e.long in let b = s.2.small in omega arith;
         }
 
-    pub freed-in : freed < length ns
-    freed-in =
+    pub freed_in : freed < length ns
+    freed_in =
         ⊎_elim (λ h. h)
         (λ h. let a = occ_in ns freed (node place k f.value f.left f.right) hp.1 h in let b = e.places freed in let d = one_self freed in absurd (omega arith))
         (cases_lt freed (length ns))
 
-    old-list : entries s.0 ≡ (before f.frames ++ entries f.left) ++ (k, f.value) ∷ (entries f.right ++ after f.frames)
-    old-list = ap entries (sym f.whole) ∙ (entries-plug f.frames (node place k f.value f.left f.right) ∙ simp append_assoc)
+    old_list : entries s.0 ≡ (before f.frames ++ entries f.left) ++ (k, f.value) ∷ (entries f.right ++ after f.frames)
+    old_list = ap entries (sym f.whole) ∙ (entries-plug f.frames (node place k f.value f.left f.right) ∙ simp append_assoc)
 
     over : AllByRecursion (λ e. c k e.0 ≡ Greater) (before f.frames ++ entries f.left)
     over = All-append (λ e. c k e.0 ≡ Greater) (before f.frames) (entries f.left) f.over f.over_left
@@ -119,25 +119,25 @@ module _ {K : Type 0} (c : K → K → Ordering) (ns : List (Node K)) (root free
         let l1 = length-set os freed g in
         let l2 = n.long in
         let l3 = e.long in
-        let fi = freed-in in
+        let fi = freed_in in
         let of = one_self freed in
         let rep : Rep c (set os freed g) r freed n.tree (freed ∷ s.1) = record {
           rooted = n.at;
           freed = refl;
-          held = holds_off os (set os freed g) n.tree freed (λ q d. nth_set_other os freed q g d) (let a = op freed in let b = occ-all freed in let d = e.places freed in let u = s.2.apart freed in omega arith) n.held;
+          held = holds_off os (set os freed g) n.tree freed (λ q d. nth_set_other os freed q g d) (let a = op freed in let b = occ_all freed in let d = e.places freed in let u = s.2.apart freed in omega arith) n.held;
           chained = (
             (g, nth_set_same os freed g (omega arith), gl ∙ s.2.freed),
             chained_kept ns (set os freed g) s.1
                 (λ q z.
                 let a = op q in
-                let b = occ-all q in
+                let b = occ_all q in
                 let d = e.places q in
                 let u = s.2.apart q in
                 let w = occ-plug q f.frames e.tree in
                 nth_set_other os freed q g (one_zero q freed (omega arith)) ∙ (n.kept q (omega arith) ∙ e.kept q (omega arith)))
                 s.2.chained,
           );
-          apart = λ q. let a = op q in let b = occ-all q in let d = e.places q in let u = s.2.apart q in omega arith;
+          apart = λ q. let a = op q in let b = occ_all q in let d = e.places q in let u = s.2.apart q in omega arith;
           counted =
               let a = size-plug f.frames e.tree (node place k f.value f.left f.right) e.count in
               let b : size s.0 ≡ size (plug f.frames (node place k f.value f.left f.right)) = ap size (sym f.whole) in
@@ -146,12 +146,12 @@ module _ {K : Type 0} (c : K → K → Ordering) (ns : List (Node K)) (root free
               omega arith;
           small = let a = s.2.small in omega arith;
           level = n.level;
-          sorted = subst (Rises c) (sym new-list) (rises-cut c k f.value xs ys (subst (Rises c) old-list s.2.sorted));
+          sorted = subst (Rises c) (sym new-list) (rises_cut c k f.value xs ys (subst (Rises c) old_list s.2.sorted));
         } in
-        let old : pairs_of ns root ≡ xs ++ (k, f.value) ∷ ys = ap entries is ∙ old-list in
-        let found : value_at c (xs ++ (k, f.value) ∷ ys) k ≡ Some f.value = value-right c k xs ((k, f.value) ∷ ys) over ∙ rw f.same refl in (
+        let old : pairs_of ns root ≡ xs ++ (k, f.value) ∷ ys = ap entries is ∙ old_list in
+        let found : value_at c (xs ++ (k, f.value) ∷ ys) k ≡ Some f.value = value_right c k xs ((k, f.value) ∷ ys) over ∙ rw f.same refl in (
           (n.tree, freed ∷ s.1, rep),
           ap is_some (ap (λ es. value_at c es k) old ∙ found),
-          ap entries (rep-tree c (set os freed g) r freed n.tree (freed ∷ s.1) rep) ∙ (new-list ∙ (sym (cut-is c k f.value xs ys over f.same) ∙ ap (λ es. cut c es k) (sym old))),
+          ap entries (rep_tree c (set os freed g) r freed n.tree (freed ∷ s.1) rep) ∙ (new-list ∙ (sym (cut_is c k f.value xs ys over f.same) ∙ ap (λ es. cut c es k) (sym old))),
           omega arith,
         )

@@ -31,11 +31,11 @@ full_slot_below_size s i b e =
 
 -- an emptying leaves nothing in the slot, also where it is refused
 pub emptied_anyway : (s : Store) (i : ℕ) → after (empty_refusal s i) (with_slot s i None) s ≡ with_slot s i None
-emptied_anyway s i = by-slot (slot_of s i) refl
+emptied_anyway s i = by_slot (slot_of s i) refl
   where
-    by-slot : (x : Option Page) → slot_of s i ≡ x → after (empty_refusal s i) (with_slot s i None) s ≡ with_slot s i None
-    by-slot None e = ap (after (empty_refusal s i) (with_slot s i None)) (sym (with_nothing_again s i e)) ∙ after_same (empty_refusal s i) (with_slot s i None)
-    by-slot (Some b) e = rw (lt-ltb i (size_of s) (full_slot_below_size s i b e), e)
+    by_slot : (x : Option Page) → slot_of s i ≡ x → after (empty_refusal s i) (with_slot s i None) s ≡ with_slot s i None
+    by_slot None e = ap (after (empty_refusal s i) (with_slot s i None)) (sym (with_nothing_again s i e)) ∙ after_same (empty_refusal s i) (with_slot s i None)
+    by_slot (Some b) e = rw (lt-ltb i (size_of s) (full_slot_below_size s i b e), e)
 
 -- a page of the right length is put into any slot of the store
 pub put_accepted : (s : Store) (i n : ℕ) → n ≡ s.page → i < size_of s → put_refusal s i n ≡ None

@@ -1,13 +1,13 @@
 use Rattle.std.proofs.Common.{◌<◌, ◌≤◌, length, sym, ap, ◌∙◌, arith, rules}
 use Rattle.ordered_map.specs.Tree.{top}
-use Rattle.ordered_map.proofs.Lookups.{rep-tree}
+use Rattle.ordered_map.proofs.Lookups.{rep_tree}
 use Rattle.ordered_map.proofs.Falls.{ground, fall, falls_none, land, landed_absent}
 use Rattle.ordered_map.proofs.locate.locate.Goals as goal
 
 pub loop-at-init : goal.loop-at-init
 loop-at-init g c =
     let s = c.requires.0.1 in
-    falls_none _ _ _ _ _ (s.2.rooted ∙ ap top (sym (rep-tree _ _ _ _ s.0 s.1 s.2)))
+    falls_none _ _ _ _ _ (s.2.rooted ∙ ap top (sym (rep_tree _ _ _ _ s.0 s.1 s.2)))
 
 pub overflow_cast-record : goal.overflow_cast-record
 overflow_cast-record g c =

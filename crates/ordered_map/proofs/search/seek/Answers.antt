@@ -1,5 +1,5 @@
 use Rattle.std.proofs.Common.{◌<◌, length, ◌∙◌, arith, rules}
-use Rattle.ordered_map.proofs.Lookups.{start, turn, ended, more-steps, sound-steps, sound-find}
+use Rattle.ordered_map.proofs.Lookups.{start, turn, ended, more_steps, sound_steps, sound_find}
 use Rattle.ordered_map.proofs.search.seek.Goals as goal
 
 pub loop-at-init : goal.loop-at-init
@@ -15,14 +15,14 @@ bounds-nodes-at g c = (turn _ _ _ _ _ _ c.loop-at.invariant c.loop-at-test.true)
 
 pub overflow_add-count : goal.overflow_add-count
 overflow_add-count g c =
-    let h = sound-steps g.K.Key.cmp _ _ _ c.requires.1 c.args.key.now in
-    let m = more-steps _ _ _ _ _ _ c.loop-at.invariant in
+    let h = sound_steps g.K.Key.cmp _ _ _ c.requires.1 c.args.key.now in
+    let m = more_steps _ _ _ _ _ _ c.loop-at.invariant in
     search rules
 
 pub loop-at-smaller-in-Less : goal.loop-at-smaller-in-Less
 loop-at-smaller-in-Less g c =
-    let h = sound-steps g.K.Key.cmp _ _ _ c.requires.1 c.args.key.now in
-    let m = more-steps _ _ _ _ _ _ ((turn _ _ _ _ _ _ c.loop-at.invariant c.loop-at-test.true).1 _ _ c.index-nodes-at.is c.in-Less.ensures) in
+    let h = sound_steps g.K.Key.cmp _ _ _ c.requires.1 c.args.key.now in
+    let m = more_steps _ _ _ _ _ _ ((turn _ _ _ _ _ _ c.loop-at.invariant c.loop-at-test.true).1 _ _ c.index-nodes-at.is c.in-Less.ensures) in
     omega arith
 
 pub loop-at-preserved-in-Less : goal.loop-at-preserved-in-Less
@@ -36,14 +36,14 @@ overflow_cast-record g c =
 
 pub returns-in-Equal : goal.returns-in-Equal
 returns-in-Equal g c =
-    let h = sound-steps g.K.Key.cmp _ _ _ c.requires.1 c.args.key.now in
+    let h = sound_steps g.K.Key.cmp _ _ _ c.requires.1 c.args.key.now in
     let m = (turn _ _ _ _ _ _ c.loop-at.invariant c.loop-at-test.true).1 _ _ c.index-nodes-at.is c.in-Equal.ensures in
-    record { value = m.0 ∙ sound-find _ _ _ _ g.K.Key.lawful c.requires.1 _; count = (m.1, omega arith) }
+    record { value = m.0 ∙ sound_find _ _ _ _ g.K.Key.lawful c.requires.1 _; count = (m.1, omega arith) }
 
 pub loop-at-smaller : goal.loop-at-smaller
 loop-at-smaller g c =
-    let h = sound-steps g.K.Key.cmp _ _ _ c.requires.1 c.args.key.now in
-    let m = more-steps _ _ _ _ _ _ ((turn _ _ _ _ _ _ c.loop-at.invariant c.loop-at-test.true).1 _ _ c.index-nodes-at.is c.in-Greater.ensures) in
+    let h = sound_steps g.K.Key.cmp _ _ _ c.requires.1 c.args.key.now in
+    let m = more_steps _ _ _ _ _ _ ((turn _ _ _ _ _ _ c.loop-at.invariant c.loop-at-test.true).1 _ _ c.index-nodes-at.is c.in-Greater.ensures) in
     omega arith
 
 pub loop-at-preserved : goal.loop-at-preserved
@@ -51,6 +51,6 @@ loop-at-preserved g c = (turn _ _ _ _ _ _ c.loop-at.invariant c.loop-at-test.tru
 
 pub returns : goal.returns
 returns g c =
-    let h = sound-steps g.K.Key.cmp _ _ _ c.requires.1 c.args.key.now in
+    let h = sound_steps g.K.Key.cmp _ _ _ c.requires.1 c.args.key.now in
     let m = ended _ _ _ _ _ _ c.loop-at.invariant c.loop-at-test.false c.requires.1.2.small in
-    record { value = m.0 ∙ sound-find _ _ _ _ g.K.Key.lawful c.requires.1 _; count = (m.1, omega arith) }
+    record { value = m.0 ∙ sound_find _ _ _ _ g.K.Key.lawful c.requires.1 _; count = (m.1, omega arith) }

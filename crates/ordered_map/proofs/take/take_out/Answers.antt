@@ -1,6 +1,6 @@
 use Rattle.std.proofs.Common.{◌<◌, length, refl, arith, rules}
 use Rattle.ordered_map.specs.Tree.{node, height}
-use Rattle.ordered_map.proofs.Takes.{f, standing, rising, freed-in, taken}
+use Rattle.ordered_map.proofs.Takes.{f, standing, rising, freed_in, taken}
 use Rattle.ordered_map.proofs.take.take_out.Goals as goal
 
 pub returns-in-Err : goal.returns-in-Err
@@ -23,7 +23,7 @@ pub bounds-nodes-freed : goal.bounds-nodes-freed
 bounds-nodes-freed g c =
     let d = c.in-Ok.ensures.1 in
     let e = c.excise-child.ensures _ _ _ _ (standing _ _ _ _ _ c.requires _ _ _ d) in
-    let fi = freed-in _ _ _ _ _ c.requires _ _ _ d _ _ _ e in
+    let fi = freed_in _ _ _ _ _ c.requires _ _ _ d _ _ _ e in
     let el = e.long in
     let rl = (c.rise-top.ensures _ _ _ (rising _ _ _ _ _ c.requires _ _ _ d _ _ _ e)).long in
     omega arith
@@ -32,14 +32,14 @@ pub offset_bounds-nodes-freed : goal.offset_bounds-nodes-freed
 offset_bounds-nodes-freed g c =
     let d = c.in-Ok.ensures.1 in
     let e = c.excise-child.ensures _ _ _ _ (standing _ _ _ _ _ c.requires _ _ _ d) in
-    let h : c.excise-child.result.1 < length c.args.nodes.now = freed-in _ _ _ _ _ c.requires _ _ _ d _ _ _ e in
+    let h : c.excise-child.result.1 < length c.args.nodes.now = freed_in _ _ _ _ _ c.requires _ _ _ d _ _ _ e in
     search rules
 
 pub bounds-nodes-freed-2 : goal.bounds-nodes-freed-2
 bounds-nodes-freed-2 g c =
     let d = c.in-Ok.ensures.1 in
     let e = c.excise-child.ensures _ _ _ _ (standing _ _ _ _ _ c.requires _ _ _ d) in
-    let fi = freed-in _ _ _ _ _ c.requires _ _ _ d _ _ _ e in
+    let fi = freed_in _ _ _ _ _ c.requires _ _ _ d _ _ _ e in
     let el = e.long in
     let rl = (c.rise-top.ensures _ _ _ (rising _ _ _ _ _ c.requires _ _ _ d _ _ _ e)).long in
     omega arith
@@ -48,7 +48,7 @@ pub offset_bounds-nodes-freed-2 : goal.offset_bounds-nodes-freed-2
 offset_bounds-nodes-freed-2 g c =
     let d = c.in-Ok.ensures.1 in
     let e = c.excise-child.ensures _ _ _ _ (standing _ _ _ _ _ c.requires _ _ _ d) in
-    let h : c.excise-child.result.1 < length c.args.nodes.now = freed-in _ _ _ _ _ c.requires _ _ _ d _ _ _ e in
+    let h : c.excise-child.result.1 < length c.args.nodes.now = freed_in _ _ _ _ _ c.requires _ _ _ d _ _ _ e in
     search rules
 
 pub returns : goal.returns
