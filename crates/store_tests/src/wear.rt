@@ -6,14 +6,14 @@ use std::test::Fail;
 
 // Two buffers of one page, and one that is a byte too long.
 #[derive(Drop)]
-pub struct Buffers {
-    pub page: Vec<u8>,
-    pub other: Vec<u8>,
-    pub wrong: Vec<u8>,
+pub(crate) struct Buffers {
+    pub(crate) page: Vec<u8>,
+    pub(crate) other: Vec<u8>,
+    pub(crate) wrong: Vec<u8>,
 }
 
 impl Buffers {
-    pub fn new(heap: Global, page: usize) -> Result<Buffers, AllocError> {
+    pub(crate) fn new(heap: Global, page: usize) -> Result<Buffers, AllocError> {
         Ok(Buffers {
             page: vec![in heap; 0u8; page]?,
             other: vec![in heap; 0u8; page]?,
@@ -23,7 +23,7 @@ impl Buffers {
 }
 
 // The number of a refusal, and 0 for an accepted call.
-pub fn outcome(answer: Result<(), Refusal>) -> u8 {
+pub(crate) fn outcome(answer: Result<(), Refusal>) -> u8 {
     match answer {
         Ok(()) => 0,
         Err(refusal) => refusal.number(),
@@ -125,7 +125,7 @@ fn holds_round<S: PageStore>(
 }
 
 // A store serves at its ends, and holds what was put last after many rounds of puts.
-pub fn wears_well<S: PageStore>(
+pub(crate) fn wears_well<S: PageStore>(
     rt: &impl Abort,
     store: &mut S,
     rounds: usize,
