@@ -13,7 +13,7 @@ pub fn line_count(page: &[u8]) -> usize
     page.len() / 4
 }
 
-// Writes a fee into a line; false where the page has no such line, and then nothing changes.
+// Writes a fee into a line. False, as where a set has an item already, where the page has no such line, and then nothing changes.
 pub fn write_fee(page: &mut [u8], line: usize, cents: u32) -> bool
     ensures answers { result ≡ nat_lt line (line_count (length page.old)) }
     ensures changes_this_line_only { page.new ≡ (if nat_lt line (line_count (length page.old)) then with_page_at 4 page.old line (fee_bytes cents) else page.old) }
@@ -41,8 +41,8 @@ pub fn read_fee(page: &[u8], line: usize) -> Option<u32>
     if line >= line_count(page) {
         return None;
     }
-    let at = line * 4;
-    Some(u32::from_be_bytes([page[at], page[at + 1], page[at + 2], page[at + 3]]))
+    let bytes = page[line * 4..].first_chunk()?;
+    Some(u32::from_be_bytes(*bytes))
 }
 
 // What the layout of a page comes to. It does nothing; its contract is the theorem.

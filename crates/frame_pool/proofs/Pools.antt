@@ -1,4 +1,4 @@
-use Rattle.std.proofs.Common.{◌≡◌, ℕ, ◌+◌, ◌*◌, ◌<◌, ◌≤◌, Bool, true, false, cond, not, eqb, List, length, get_or, replicate, is_some, Some, None, sym, refl, ap, ◌∙◌, arith}
+use Rattle.std.proofs.Common.{◌≡◌, ℕ, ◌+◌, ◌*◌, ◌<◌, ◌≤◌, Bool, true, false, cond, not, eqb, List, length, get_or, replicate, is_some, Some, None, Ok, sym, refl, ap, ◌∙◌, arith}
 use Rattle.std.proofs.lemmas.List.FromFn.{length-map-range_with_len, get_or-map-range_with_len}
 use Rattle.std.proofs.lemmas.List.{get_or-set_same, get_or-set_other, length-set, length-replicate, get_or-replicate}
 use Rattle.std.proofs.lemmas.Bool.Decides.{nat_tests}
@@ -6,6 +6,11 @@ use Rattle.page_store.specs.Stores.{empty_store, size_of, slot_of, is_full, with
 use Rattle.page_store.specs.Memory.{page_at}
 use Rattle.page_store.proofs.Counts.{counted_set, counted_same}
 use Rattle.page_store.proofs.Pages.{place_ends, page_here, page_other}
+use Rattle.page_store.specs.Laws.{Done}
+use Rattle.page_store.specs.Calls.{answer, ask_refusal}
+use Rattle.page_store.proofs.Slots.{slot_is_below_size}
+use Rattle.frame_pool.specs.declared.pool.FramePool.{FramePool}
+use Rattle.frame_pool.specs.Meaning.{memory_of, model_of}
 use Rattle.frame_pool.specs.Layout.{Memory, slot_at, slots_in, pool_of, saved, cleared, unmarked, pool_refusal}
 
 -- What the store over a memory holds.
@@ -64,3 +69,11 @@ pool_starts p n bytes =
 
 pub accepted_marks : (p n b m : ℕ) → pool_refusal p n b m ≡ None → m ≡ n
 accepted_marks p n b m h = grind (arith, nat_tests)
+
+-- A slot of the store is one of the pool's marks.
+
+pub marked : (s : FramePool) (i : ℕ) → i < size_of (model_of s) → i < length s.marks.now
+marked s i h = let e = pool_size s.page (memory_of s) in omega arith
+
+pub checked : (s : FramePool) (i : ℕ) → ◌≡◌ {A = Done} (Ok tt) (answer (ask_refusal (model_of s) i) tt) → i < length s.marks.now
+checked s i h = marked s i (slot_is_below_size (model_of s) i h)

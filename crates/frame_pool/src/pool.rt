@@ -4,6 +4,7 @@ ghost use Rattle.page_store.specs.Stores.{is_page_size, Bytes};
 pub mod calls;
 
 // Pages one after another in lent memory, with a mark byte for each slot.
+// The layout is given: bytes and marks in two lent arrays side by side.
 #[derive(Drop)]
 pub struct FramePool<'a> {
     bytes: &'a mut [u8],

@@ -1,12 +1,19 @@
-use Rattle.std.specs.Prelude.{◌≡◌, ℕ, Bool, cond, List, length, Some, None, Ok, Err, Option, Result, ◌==◌, nat_lt}
+use Rattle.std.specs.Prelude.{◌≡◌, ℕ, Bool, cond, List, length, Some, None, Ok, Err, ◌&&◌, Option, Result, ◌==◌, nat_le, nat_lt}
 use Rattle.std.specs.Option.{unwrap_or}
 use Rattle.page_store.specs.declared.refusal.Refusal.{Refusal}
-use Rattle.page_store.specs.declared.refusal.Refusal.TheVariants.{WrongLength, NoSuchSlot, EmptySlot}
-use Rattle.page_store.specs.Stores.{Page, Store, size_of, slot_of, is_full, with_slot}
+use Rattle.page_store.specs.declared.refusal.Refusal.TheVariants.{PageSize, StoreSize, WrongLength, NoSuchSlot, EmptySlot}
+use Rattle.page_store.specs.Stores.{Page, Store, is_page_size, size_of, slot_of, is_full, with_slot}
+
+-- Why no store of n slots of p bytes can be made, the first that fits in the order of the numbers.
+abbrev pub sizes_refusal : ℕ → ℕ → Option Refusal
+sizes_refusal p n = cond (is_page_size p) (cond (nat_le 1 n && nat_le n 2048) None (Some StoreSize)) (Some PageSize)
 
 -- Which refusal a call on slot i gives, the first that fits in the order of their numbers; None where it is accepted. n is the length of the buffer.
 abbrev pub ask_refusal : Store → ℕ → Option Refusal
 ask_refusal s i = cond (nat_lt i (size_of s)) None (Some NoSuchSlot)
+
+abbrev pub length_refusal : Store → ℕ → Option Refusal
+length_refusal s n = cond (n == s.page) None (Some WrongLength)
 
 abbrev pub empty_refusal : Store → ℕ → Option Refusal
 empty_refusal s i = cond (nat_lt i (size_of s)) (cond (is_full s i) None (Some EmptySlot)) (Some NoSuchSlot)

@@ -13,12 +13,10 @@ pub fn move_page<A: PageStore, B: PageStore>(
 ) -> Result<(), Refusal>
     ensures { Moved (A.PageStore.model source.old) (A.PageStore.model source.new) slot (B.PageStore.model target.old) (B.PageStore.model target.new) place buffer.old buffer.new result }
 {
-    if buffer.len() != source.page_size() || buffer.len() != target.page_size() {
-        return Err(Refusal::WrongLength);
-    }
-    if slot >= source.slot_count() || place >= target.slot_count() {
-        return Err(Refusal::NoSuchSlot);
-    }
+    source.check_length(buffer.len())?;
+    target.check_length(buffer.len())?;
+    source.check_slot(slot)?;
+    target.check_slot(place)?;
     source.fetch(slot, buffer)?;
     target.put(place, buffer)?;
     source.empty(slot)

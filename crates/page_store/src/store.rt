@@ -1,5 +1,5 @@
 ghost use Rattle.std.specs.Prelude.{◌≡◌};
-ghost use Rattle.page_store.specs.Calls.{Asked, Fetched, Put, Emptied};
+ghost use Rattle.page_store.specs.Calls.{answer, length_refusal, ask_refusal, Asked, Fetched, Put, Emptied};
 ghost use Rattle.page_store.specs.Stores.{Store, Sound, size_of};
 
 use super::Refusal;
@@ -9,9 +9,6 @@ pub trait PageStore {
     // what the store holds
     ghost model: { Self → Store };
 
-    // its limits, which hold at all times
-    ghost sound: { (s : Self) → Sound (model s) };
-
     // The length of every page, in bytes.
     fn page_size(&self) -> usize
         ensures { result ≡ (model self.now).page };
@@ -19,6 +16,26 @@ pub trait PageStore {
     // The number of slots.
     fn slot_count(&self) -> usize
         ensures { result ≡ size_of (model self.now) };
+
+    // Refuses what is not exactly one page long.
+    fn check_length(&self, bytes: usize) -> Result<(), Refusal>
+        ensures { result ≡ answer (length_refusal (model self.now) bytes) tt }
+    {
+        if bytes != self.page_size() {
+            return Err(Refusal::WrongLength);
+        }
+        Ok(())
+    }
+
+    // Refuses the number of no slot.
+    fn check_slot(&self, slot: usize) -> Result<(), Refusal>
+        ensures { result ≡ answer (ask_refusal (model self.now) slot) tt }
+    {
+        if slot >= self.slot_count() {
+            return Err(Refusal::NoSuchSlot);
+        }
+        Ok(())
+    }
 
     // Whether a slot holds a page.
     fn is_full(&self, slot: usize) -> Result<bool, Refusal>
@@ -35,4 +52,7 @@ pub trait PageStore {
     // Leaves a slot with nothing.
     fn empty(&mut self, slot: usize) -> Result<(), Refusal>
         ensures { Emptied (model self.old) (model self.new) slot result };
+
+    // its limits, which hold at all times
+    ghost sound: { (s : Self) → Sound (model s) };
 }

@@ -1,5 +1,5 @@
 use fee_schedule::{line_count, read_fee, write_fee};
-use page_store::{Lent, PageStore, Refusal};
+use page_store::{PageStore, Refusal};
 use std::io;
 use zero_layer::ZeroLayer;
 
@@ -16,21 +16,16 @@ fn lay_out(page: &mut [u8], first: u32, step: u32) {
 
 // The sum of the fees of a page.
 fn sum_of(page: &[u8]) -> u64 {
-    let mut sum = 0u64;
-    for line in 0..line_count(page) {
-        sum = sum.saturating_add(u64::from(read_fee(page, line).unwrap_or(0)));
-    }
-    sum
+    (0..line_count(page))
+        .filter_map(|line| read_fee(page, line))
+        .fold(0u64, |sum, fee| sum.saturating_add(u64::from(fee)))
 }
 
 // One line on how a call ended.
 pub fn report(rt: &impl Print, what: &str, answer: Result<(), Refusal>) -> io::Result<()> {
     match answer {
         Ok(()) => println!(rt; "{what}: done"),
-        Err(refusal) => {
-            let number = refusal.number();
-            println!(rt; "{what}: refused by {number}")
-        }
+        Err(refusal) => println!(rt; "{what}: {refusal}"),
     }
 }
 
@@ -46,10 +41,7 @@ fn show_slot<S: PageStore>(rt: &impl Print, store: &S, slot: usize) -> io::Resul
                 "  slot {slot}: {lines} fees, the first {first} cents, together {sum} cents"
             )
         }
-        Err(refusal) => {
-            let number = refusal.number();
-            println!(rt; "  slot {slot}: nothing (a fetch is refused by {number})")
-        }
+        Err(refusal) => println!(rt; "  slot {slot}: nothing (a fetch is {refusal})"),
     }
 }
 
@@ -112,15 +104,12 @@ pub fn show_refusals<S: PageStore>(rt: &impl Print, store: &mut S) -> io::Result
     report(rt, "empty slot 2", store.empty(2))?;
     match store.is_full(9) {
         Ok(full) => println!(rt; "is slot 9 full: {full}"),
-        Err(refusal) => {
-            let number = refusal.number();
-            println!(rt; "is slot 9 full: refused by {number}")
-        }
+        Err(refusal) => println!(rt; "is slot 9 full: {refusal}"),
     }
 }
 
 // Files the schedule in a layer over a store, and shows what the store itself has kept.
 pub fn file_in_layer<S: PageStore>(rt: &impl Print, store: &mut S) -> io::Result<()> {
-    let mut layer = ZeroLayer::new(Lent { store });
+    let mut layer = ZeroLayer::new(store);
     file_schedule(rt, &mut layer)
 }

@@ -1,33 +1,26 @@
 #![tactic(auto)]
 
+// Page and count go side by side, as in the makers that are tried.
 // Tests of the stores at their limits: each page size, the smallest and the largest size, lengths one off, the last slot and the one after it.
 #[cfg(test)]
 mod wear;
 
 #[cfg(test)]
 mod pools {
-    use crate::wear::{Buffers, outcome, wears_well};
+    use crate::wear::{Buffers, wears_well};
     use frame_pool::FramePool;
-    use page_store::PageStore;
+    use page_store::Refusal;
     use std::process::Abort;
     use std::test::Fail;
 
-    // A pool over this memory, at its first and last slot and past its end.
-    fn pool_over(
-        rt: &impl Abort,
+    fn pool_over<'a>(
         page: usize,
         count: usize,
-        bytes: &mut [u8],
-        marks: &mut [u8],
-        buffers: &mut Buffers,
-    ) -> Result<(), Fail> {
-        if FramePool::check(page, count, bytes, marks).is_err() {
-            return Err(Fail::new("the check refuses"));
-        }
-        let mut pool = FramePool::new(page, count, bytes, marks);
-        assert_eq!(rt; pool.page_size(), page);
-        assert_eq!(rt; pool.slot_count(), count);
-        wears_well(rt, &mut pool, 3, buffers)
+        bytes: &'a mut [u8],
+        marks: &'a mut [u8],
+    ) -> Result<FramePool<'a>, Fail> {
+        FramePool::check(page, count, bytes, marks).map_err(|_| Fail::new("the check refuses"))?;
+        Ok(FramePool::new(page, count, bytes, marks))
     }
 
     fn pool_serves(rt: &(impl Abort + AllocGlobal), page: usize, count: usize) -> Result<(), Fail> {
@@ -35,7 +28,8 @@ mod pools {
         let mut bytes = vec![in heap; 7u8; page.saturating_mul(count)]?;
         let mut marks = vec![in heap; 9u8; count]?;
         let mut buffers = Buffers::new(heap, page)?;
-        pool_over(rt, page, count, &mut bytes, &mut marks, &mut buffers)
+        let mut pool = pool_over(page, count, &mut bytes, &mut marks)?;
+        wears_well(rt, &mut pool, page, count, 3, &mut buffers)
     }
 
     #[test]
@@ -48,35 +42,35 @@ mod pools {
         pool_serves(&rt, 4096, 2048)
     }
 
-    // What the check says of `count` slots of `page` bytes over this much memory.
+    // What the check says of `count` slots of `page` bytes over this much memory; a refusal by its number, so that the numbers are tried too.
     fn checked(
         rt: &HostRuntime,
         page: usize,
         count: usize,
         bytes: usize,
         marks: usize,
-    ) -> Result<u8, Fail> {
+    ) -> Result<Result<(), u8>, Fail> {
         let heap = rt.alloc();
         let bytes = vec![in heap; 0u8; bytes]?;
         let marks = vec![in heap; 0u8; marks]?;
-        Ok(outcome(FramePool::check(page, count, &bytes, &marks)))
+        Ok(FramePool::check(page, count, &bytes, &marks).map_err(Refusal::number))
     }
 
     #[test]
     fn one_off_is_refused(rt: HostRuntime) -> Result<(), Fail> {
-        assert_eq!(rt; checked(&rt, 64, 2, 128, 2)?, 0);
-        assert_eq!(rt; checked(&rt, 64, 2, 127, 2)?, 3, "a byte too few");
-        assert_eq!(rt; checked(&rt, 64, 2, 129, 2)?, 3, "a byte too many");
-        assert_eq!(rt; checked(&rt, 64, 2, 128, 1)?, 3, "a mark too few");
-        assert_eq!(rt; checked(&rt, 64, 2, 128, 3)?, 3, "a mark too many");
-        assert_eq!(rt; checked(&rt, 64, 0, 0, 0)?, 2, "no slot");
+        assert_eq!(rt; checked(&rt, 64, 2, 128, 2)?, Ok(()));
+        assert_eq!(rt; checked(&rt, 64, 2, 127, 2)?, Err(3), "a byte too few");
+        assert_eq!(rt; checked(&rt, 64, 2, 129, 2)?, Err(3), "a byte too many");
+        assert_eq!(rt; checked(&rt, 64, 2, 128, 1)?, Err(3), "a mark too few");
+        assert_eq!(rt; checked(&rt, 64, 2, 128, 3)?, Err(3), "a mark too many");
+        assert_eq!(rt; checked(&rt, 64, 0, 0, 0)?, Err(2), "no slot");
         assert_eq!(rt;
             checked(&rt, 64, 2049, 131_136, 2049)?,
-            2,
+            Err(2),
             "a slot too many"
         );
-        assert_eq!(rt; checked(&rt, 64, 0, 1, 1)?, 2, "2 before 3");
-        assert_eq!(rt; checked(&rt, 63, 0, 1, 1)?, 1, "1 before 2");
+        assert_eq!(rt; checked(&rt, 64, 0, 1, 1)?, Err(2), "2 before 3");
+        assert_eq!(rt; checked(&rt, 63, 0, 1, 1)?, Err(1), "1 before 2");
         Ok(())
     }
 
@@ -85,7 +79,7 @@ mod pools {
         for page in [
             0usize, 1, 63, 65, 128, 255, 257, 512, 1023, 1025, 2048, 4095, 4097, 8192,
         ] {
-            assert_eq!(rt; checked(&rt, page, 1, page, 1)?, 1);
+            assert_eq!(rt; checked(&rt, page, 1, page, 1)?, Err(1));
         }
         Ok(())
     }
@@ -93,8 +87,8 @@ mod pools {
 
 #[cfg(test)]
 mod logs {
-    use crate::wear::{Buffers, outcome, wears_well};
-    use page_store::{Lent, PageStore};
+    use crate::wear::{Buffers, wears_well};
+    use page_store::{PageStore, Refusal};
     use std::process::Abort;
     use std::test::Fail;
     use swap_log::SwapLog;
@@ -104,29 +98,25 @@ mod logs {
     fn layers_over<S: PageStore>(
         rt: &impl Abort,
         store: &mut S,
+        page: usize,
+        count: usize,
         buffers: &mut Buffers,
     ) -> Result<(), Fail> {
-        let mut lower = ZeroLayer::new(Lent { store });
-        let mut upper = ZeroLayer::new(Lent { store: &mut lower });
-        wears_well(rt, &mut upper, 3, buffers)
+        let mut upper = ZeroLayer::new(ZeroLayer::new(store));
+        wears_well(rt, &mut upper, page, count, 3, buffers)
     }
 
-    fn log_over(
-        rt: &impl Abort,
+    fn log_over<'a>(
         page: usize,
         count: usize,
         positions: usize,
-        numbers: &mut [u16],
-        bytes: &mut [u8],
-        buffers: &mut Buffers,
-    ) -> Result<(), Fail> {
-        if SwapLog::check(page, count, positions, numbers, bytes).is_err() {
-            return Err(Fail::new("the check refuses"));
-        }
-        let mut log = SwapLog::new(page, count, positions, numbers, bytes);
-        assert_eq!(rt; log.page_size(), page);
-        assert_eq!(rt; log.slot_count(), count);
-        wears_well(rt, &mut log, 5, buffers)
+        numbers: &'a mut [u16],
+        bytes: &'a mut [u8],
+    ) -> Result<SwapLog<'a>, Fail> {
+        SwapLog::check(page, count, positions, numbers, bytes).map_err(|_| Fail::new(
+            "the check refuses",
+        ))?;
+        Ok(SwapLog::new(page, count, positions, numbers, bytes))
     }
 
     fn log_serves(
@@ -139,15 +129,8 @@ mod logs {
         let mut numbers = vec![in heap; 3u16; positions]?;
         let mut bytes = vec![in heap; 7u8; page.saturating_mul(positions)]?;
         let mut buffers = Buffers::new(heap, page)?;
-        log_over(
-            rt,
-            page,
-            count,
-            positions,
-            &mut numbers,
-            &mut bytes,
-            &mut buffers,
-        )
+        let mut log = log_over(page, count, positions, &mut numbers, &mut bytes)?;
+        wears_well(rt, &mut log, page, count, 5, &mut buffers)
     }
 
     #[test]
@@ -163,6 +146,7 @@ mod logs {
         log_serves(&rt, 64, 2048, 4096)
     }
 
+    // As the pool's, but of another maker with other memory: what they share is the two lines around it.
     fn checked(
         rt: &HostRuntime,
         page: usize,
@@ -170,51 +154,36 @@ mod logs {
         positions: usize,
         numbers: usize,
         bytes: usize,
-    ) -> Result<u8, Fail> {
+    ) -> Result<Result<(), u8>, Fail> {
         let heap = rt.alloc();
         let numbers = vec![in heap; 0u16; numbers]?;
         let bytes = vec![in heap; 0u8; bytes]?;
-        Ok(outcome(SwapLog::check(page, count, positions, &numbers, &bytes)))
+        Ok(SwapLog::check(page, count, positions, &numbers, &bytes).map_err(Refusal::number))
     }
 
     #[test]
     fn one_off_is_refused(rt: HostRuntime) -> Result<(), Fail> {
-        assert_eq!(rt; checked(&rt, 64, 2, 3, 3, 192)?, 0);
-        assert_eq!(rt; checked(&rt, 64, 2, 3, 2, 192)?, 3, "a number too few");
-        assert_eq!(rt; checked(&rt, 64, 2, 3, 3, 193)?, 3, "a byte too many");
+        assert_eq!(rt; checked(&rt, 64, 2, 3, 3, 192)?, Ok(()));
+        assert_eq!(rt; checked(&rt, 64, 2, 3, 2, 192)?, Err(3), "a number too few");
+        assert_eq!(rt; checked(&rt, 64, 2, 3, 3, 193)?, Err(3), "a byte too many");
         assert_eq!(rt;
             checked(&rt, 64, 2, 1, 1, 64)?,
-            2,
+            Err(2),
             "fewer positions than slots"
         );
         assert_eq!(rt;
             checked(&rt, 64, 2, 5, 5, 320)?,
-            2,
+            Err(2),
             "more than twice as many"
         );
-        assert_eq!(rt; checked(&rt, 64, 0, 0, 0, 0)?, 2, "no slot");
+        assert_eq!(rt; checked(&rt, 64, 0, 0, 0, 0)?, Err(2), "no slot");
         assert_eq!(rt;
             checked(&rt, 64, 2049, 2049, 2049, 131_136)?,
-            2,
+            Err(2),
             "a slot too many"
         );
-        assert_eq!(rt; checked(&rt, 65, 0, 0, 1, 1)?, 1, "1 before 2 and 3");
+        assert_eq!(rt; checked(&rt, 65, 0, 0, 1, 1)?, Err(1), "1 before 2 and 3");
         Ok(())
-    }
-
-    fn pile_over(
-        rt: &impl Abort,
-        page: usize,
-        count: usize,
-        numbers: &mut [u16],
-        bytes: &mut [u8],
-        buffers: &mut Buffers,
-    ) -> Result<(), Fail> {
-        if SwapLog::check(page, count, count, numbers, bytes).is_err() {
-            return Err(Fail::new("the check refuses"));
-        }
-        let mut log = SwapLog::new(page, count, count, numbers, bytes);
-        layers_over(rt, &mut log, buffers)
     }
 
     fn pile_serves(rt: &(impl Abort + AllocGlobal), page: usize, count: usize) -> Result<(), Fail> {
@@ -222,7 +191,8 @@ mod logs {
         let mut numbers = vec![in heap; 3u16; count]?;
         let mut bytes = vec![in heap; 7u8; page.saturating_mul(count)]?;
         let mut buffers = Buffers::new(heap, page)?;
-        pile_over(rt, page, count, &mut numbers, &mut bytes, &mut buffers)
+        let mut log = log_over(page, count, count, &mut numbers, &mut bytes)?;
+        layers_over(rt, &mut log, page, count, &mut buffers)
     }
 
     #[test]

@@ -1,4 +1,5 @@
 // What a store has to bear at its first and last slot, past its end, and over many rounds of puts.
+// Refusals are compared by their numbers, so that the numbers are tried too.
 use page_store::{PageStore, Refusal};
 use std::alloc::{AllocError, Global};
 use std::process::Abort;
@@ -22,22 +23,6 @@ impl Buffers {
     }
 }
 
-// The number of a refusal, and 0 for an accepted call.
-pub(crate) fn outcome(answer: Result<(), Refusal>) -> u8 {
-    match answer {
-        Ok(()) => 0,
-        Err(refusal) => refusal.number(),
-    }
-}
-
-// The same for a question, where 1 says full and 0 empty.
-fn asked(answer: Result<bool, Refusal>) -> u8 {
-    match answer {
-        Ok(full) => u8::from(full),
-        Err(refusal) => refusal.number(),
-    }
-}
-
 // An empty slot takes a page, gives it back, and is empty again.
 fn slot_serves<S: PageStore>(
     rt: &impl Abort,
@@ -48,15 +33,23 @@ fn slot_serves<S: PageStore>(
 ) -> Result<(), Fail> {
     page.fill(0xa5);
     buffer.fill(0);
-    assert_eq!(rt; asked(store.is_full(slot)), 0, "empty at first");
-    assert_eq!(rt; outcome(store.fetch(slot, buffer)), 31, "nothing to fetch");
-    assert_eq!(rt; outcome(store.empty(slot)), 31, "nothing to empty");
-    assert_eq!(rt; outcome(store.put(slot, page)), 0, "put");
-    assert_eq!(rt; asked(store.is_full(slot)), 1, "full");
-    assert_eq!(rt; outcome(store.fetch(slot, buffer)), 0, "fetched");
+    assert_eq!(rt; store.is_full(slot), Ok(false), "empty at first");
+    assert_eq!(rt;
+        store.fetch(slot, buffer).map_err(Refusal::number),
+        Err(31),
+        "nothing to fetch"
+    );
+    assert_eq!(rt;
+        store.empty(slot).map_err(Refusal::number),
+        Err(31),
+        "nothing to empty"
+    );
+    assert_eq!(rt; store.put(slot, page), Ok(()), "put");
+    assert_eq!(rt; store.is_full(slot), Ok(true), "full");
+    assert_eq!(rt; store.fetch(slot, buffer), Ok(()), "fetched");
     assert!(rt; page[..] == buffer[..], "what was put");
-    assert_eq!(rt; outcome(store.empty(slot)), 0, "emptied");
-    assert_eq!(rt; asked(store.is_full(slot)), 0, "empty again");
+    assert_eq!(rt; store.empty(slot), Ok(()), "emptied");
+    assert_eq!(rt; store.is_full(slot), Ok(false), "empty again");
     Ok(())
 }
 
@@ -68,12 +61,12 @@ fn slot_past_the_end<S: PageStore>(
     wrong: &mut [u8],
 ) -> Result<(), Fail> {
     let slot = store.slot_count();
-    assert_eq!(rt; asked(store.is_full(slot)), 30);
-    assert_eq!(rt; outcome(store.fetch(slot, page)), 30);
-    assert_eq!(rt; outcome(store.put(slot, page)), 30);
-    assert_eq!(rt; outcome(store.empty(slot)), 30);
-    assert_eq!(rt; outcome(store.fetch(slot, wrong)), 3);
-    assert_eq!(rt; outcome(store.put(slot, wrong)), 3);
+    assert_eq!(rt; store.is_full(slot).map_err(Refusal::number), Err(30));
+    assert_eq!(rt; store.fetch(slot, page).map_err(Refusal::number), Err(30));
+    assert_eq!(rt; store.put(slot, page).map_err(Refusal::number), Err(30));
+    assert_eq!(rt; store.empty(slot).map_err(Refusal::number), Err(30));
+    assert_eq!(rt; store.fetch(slot, wrong).map_err(Refusal::number), Err(3));
+    assert_eq!(rt; store.put(slot, wrong).map_err(Refusal::number), Err(3));
     Ok(())
 }
 
@@ -103,7 +96,7 @@ fn put_round<S: PageStore>(
 ) -> Result<(), Fail> {
     for slot in 0..store.slot_count() {
         page.fill(tag(round, slot));
-        assert_eq!(rt; outcome(store.put(slot, page)), 0);
+        assert_eq!(rt; store.put(slot, page), Ok(()));
     }
     Ok(())
 }
@@ -118,19 +111,23 @@ fn holds_round<S: PageStore>(
 ) -> Result<(), Fail> {
     for slot in 0..store.slot_count() {
         page.fill(tag(round, slot));
-        assert_eq!(rt; outcome(store.fetch(slot, buffer)), 0);
+        assert_eq!(rt; store.fetch(slot, buffer), Ok(()));
         assert!(rt; page[..] == buffer[..]);
     }
     Ok(())
 }
 
-// A store serves at its ends, and holds what was put last after many rounds of puts.
+// A store has the sizes that it was made with, serves at its ends, and holds what was put last after many rounds of puts.
 pub(crate) fn wears_well<S: PageStore>(
     rt: &impl Abort,
     store: &mut S,
+    page: usize,
+    count: usize,
     rounds: usize,
     buffers: &mut Buffers,
 ) -> Result<(), Fail> {
+    assert_eq!(rt; store.page_size(), page);
+    assert_eq!(rt; store.slot_count(), count);
     serves_at_its_ends(rt, store, buffers)?;
     for round in 0..rounds {
         put_round(rt, store, round, &mut buffers.page)?;

@@ -6,7 +6,7 @@ use Rattle.std.proofs.lemmas.Bool.{eq-eqb, ne_eqb}
 use Rattle.page_store.specs.Stores.{Bytes}
 use Rattle.page_store.specs.Memory.{page_at, with_page_at}
 use Rattle.page_store.proofs.Counts.{counted_set, counted_ext}
-use Rattle.page_store.proofs.Pages.{place_ends, page_here, page_other, with_page_length, written_is, bytes_with_page}
+use Rattle.page_store.proofs.Pages.{place_ends, page_length, page_here, page_other, with_page_length, written_is, bytes_page, bytes_with_page}
 use Rattle.swap_log.specs.Layout.{Position, position_at, positions_in, is_live, live, bearing, slot_in, killed, Found}
 use Rattle.swap_log.proofs.Positions.{bearing_none, slot_found, killed_at}
 
@@ -58,15 +58,15 @@ positions_written p ns bs ys e v h whole one =
     (positions_same p ns (set ns e v) bs (with_page_at p bs e ys) e (λ k l. written_other p ns bs ys e k v fits one (λ z. omega arith)))
     ∙ ap (λ x. positions_in p ns bs e ++ x ∷ []) (written_here p ns bs ys e v h fits one)
 
--- the same where k is p, and that the bytes are still as many and are bytes
-pub record Appended (p : ℕ) (ns bs ys : List ℕ) (e v k : ℕ) : Type 0 where
-  pub positions : positions_in p (set ns e v) (put_mid (e * p) k bs ys) (e + 1) ≡ positions_in p ns bs e ++ record { number = v; page = ys } ∷ []
-  pub whole : length (put_mid (e * p) k bs ys) ≡ length (set ns e v) * p
-  pub bounded : Bytes (put_mid (e * p) k bs ys)
+-- the same after a copy of ys to the bytes at the end, of which there are k, and that the bytes are still as many and are bytes
+pub record Appended (p : ℕ) (ns bs zs ys : List ℕ) (e v k : ℕ) : Type 0 where
+  pub positions : positions_in p (set ns e v) (put_mid (e * p) k bs zs) (e + 1) ≡ positions_in p ns bs e ++ record { number = v; page = ys } ∷ []
+  pub whole : length (put_mid (e * p) k bs zs) ≡ length (set ns e v) * p
+  pub bounded : Bytes (put_mid (e * p) k bs zs)
 
-pub appended : (p : ℕ) (ns bs ys : List ℕ) (e v k : ℕ) → e < length ns → length bs ≡ length ns * p → length ys ≡ p → k ≡ p → Bytes bs → Bytes ys → Appended p ns bs ys e v k
-appended p ns bs ys e v k h whole one kp bounded small =
-    let written = written_is p e k bs ys kp in
+pub appended : (p : ℕ) (ns bs zs ys : List ℕ) (e v k : ℕ) → e < length ns → length bs ≡ length ns * p → zs ≡ ys → length ys ≡ p → k ≡ p → Bytes bs → Bytes ys → Appended p ns bs zs ys e v k
+appended p ns bs zs ys e v k h whole copied one kp bounded small =
+    let written = ap (put_mid (e * p) k bs) copied ∙ written_is p e k bs ys kp in
     let ends = place_ends e (length ns) p h in
     record {
       positions = ap (λ cs. positions_in p (set ns e v) cs (e + 1)) written ∙ positions_written p ns bs ys e v h whole one;
@@ -80,11 +80,12 @@ pub record Squeezed (p : ℕ) (ns bs ms cs : List ℕ) (i j : ℕ) : Type 0 wher
   pub numbers_length : length ms ≡ length ns
   pub bytes_length : length cs ≡ length bs
   pub front : positions_in p ms cs j ≡ live (positions_in p ns bs i)
+  pub bounded : Bytes cs
   pub rest : (k : ℕ) → i ≤ k → position_at p ms cs k ≡ position_at p ns bs k
 
-pub squeeze_none : (p : ℕ) (ns bs : List ℕ) → Squeezed p ns bs ns bs 0 0
+pub squeeze_none : (p : ℕ) (ns bs : List ℕ) → Bytes bs → Squeezed p ns bs ns bs 0 0
 unfolding positions_in live
-squeeze_none p ns bs = record { shorter = omega arith; numbers_length = refl; bytes_length = refl; front = refl; rest = λ k h. refl }
+squeeze_none p ns bs b = record { shorter = omega arith; numbers_length = refl; bytes_length = refl; front = refl; bounded = b; rest = λ k h. refl }
 
 live_more : (p : ℕ) (ns bs : List ℕ) (i : ℕ) → live (positions_in p ns bs (i + 1)) ≡ live (positions_in p ns bs i) ++ cond (is_live (position_at p ns bs i)) (position_at p ns bs i ∷ []) []
 unfolding positions_in live
@@ -100,16 +101,18 @@ squeeze_dead p ns bs ms cs i j s d =
       numbers_length = s.numbers_length;
       bytes_length = s.bytes_length;
       front = s.front ∙ sym (live_more p ns bs i ∙ ap (λ ys. live (positions_in p ns bs i) ++ ys) none ∙ append-nil (live (positions_in p ns bs i)));
+      bounded = s.bounded;
       rest = λ k h. s.rest k (omega arith);
     }
 
-pub squeeze_live : (p : ℕ) (ns bs ms cs : List ℕ) (i j : ℕ) → Squeezed p ns bs ms cs i j → i < length ns → length bs ≡ length ns * p → length (page_at p cs i) ≡ p → (get_or ms i 0 ≡ 65535 → ⊥) → Squeezed p ns bs (set ms j (get_or ms i 0)) (with_page_at p cs j (page_at p cs i)) (i + 1) (j + 1)
-squeeze_live p ns bs ms cs i j s h whole one d =
+pub squeeze_live : (p : ℕ) (ns bs ms cs : List ℕ) (i j : ℕ) → Squeezed p ns bs ms cs i j → i < length ns → length bs ≡ length ns * p → (get_or ms i 0 ≡ 65535 → ⊥) → Squeezed p ns bs (set ms j (get_or ms i 0)) (with_page_at p cs j (page_at p cs i)) (i + 1) (j + 1)
+squeeze_live p ns bs ms cs i j s h whole d =
     let l = s.shorter in
     let nl = s.numbers_length in
     let bl = s.bytes_length in
     let ends = place_ends j (length ns) p (omega arith) in
     let fits : j * p + p ≤ length cs = omega arith in
+    let one = page_length i (length ns) p cs h (bl ∙ whole) in
     let old : position_at p ms cs i ≡ position_at p ns bs i = s.rest i (omega arith) in
     let n : get_or ns i 0 ≡ 65535 → ⊥ = λ e. d (ap (λ x. x.number) old ∙ e) in
     let kept : cond (is_live (position_at p ns bs i)) (position_at p ns bs i ∷ []) [] ≡ position_at p ns bs i ∷ [] = rw (ne_eqb (get_or ns i 0) 65535 n) in
@@ -122,13 +125,9 @@ squeeze_live p ns bs ms cs i j s h whole one d =
           ∙ ap (λ x. positions_in p ms cs j ++ x ∷ []) old
           ∙ ap (λ xs. xs ++ position_at p ns bs i ∷ []) s.front
           ∙ sym (live_more p ns bs i ∙ ap (λ ys. live (positions_in p ns bs i) ++ ys) kept);
+      bounded = bytes_with_page p j cs (page_at p cs i) s.bounded (bytes_page p i cs s.bounded);
       rest = λ k g. written_other p ms cs (page_at p cs i) j k (get_or ms i 0) fits one (λ z. omega arith) ∙ s.rest k (omega arith);
     }
-
--- all e positions compacted
-pub squeezed_all : (p q : ℕ) (ns bs ms cs : List ℕ) (i j e : ℕ) → q ≡ p → i ≡ e → Squeezed p ns bs ms cs i j → positions_in q ms cs j ≡ live (positions_in p ns bs e)
-squeezed_all p q ns bs ms cs i j e qp ie s =
-    ap (λ r. positions_in r ms cs j) qp ∙ s.front ∙ ap (λ k. live (positions_in p ns bs k)) ie
 
 -- What the position that was found tells.
 

@@ -7,7 +7,7 @@ use Rattle.page_store.specs.Stores.{Page, size_of, slot_of, with_slot}
 use Rattle.page_store.specs.Tallies.{tally}
 use Rattle.page_store.proofs.Counts.{counted_set, counted_ext}
 use Rattle.page_store.proofs.Pigeons.{tally-append, pigeonhole, pigeonhole_less}
-use Rattle.swap_log.specs.Layout.{Position, is_live, live, bearing, Within, Once, slot_in, slots_in, log_of, killed, with_room}
+use Rattle.swap_log.specs.Layout.{Position, is_live, live, bearing, Within, Once, OneLivePosition, slot_in, slots_in, log_of, killed, with_room}
 
 -- Lists of positions: how many bear a number, and what the slots hold.
 
@@ -243,7 +243,7 @@ apart xs once q =
     (λ (e : q ≡ 65535 → ⊥). let z = live_bears q xs e in let o = once q e in omega arith)
     (cases_eq q 65535)
 
-pub few_live : (n : ℕ) (xs : List Position) → Within n xs → Once xs → length (live xs) ≤ n
+few_live : (n : ℕ) (xs : List Position) → Within n xs → Once xs → length (live xs) ≤ n
 unfolding bearing
 few_live n xs within once =
     let r : length (map (λ (x : Position). x.number) (live xs)) ≤ n = pigeonhole n (map (λ x. x.number) (live xs)) (below n xs within) (apart xs once) in
@@ -258,23 +258,29 @@ fewer_live n q xs few h none within once =
     let l = length-map (live xs) (λ x. x.number) in
     omega arith
 
--- Each change keeps the numbers within the slots, and each at most once.
+-- At most one live position a slot: what keeps it so.
 
-pub killed_within : (n q : ℕ) (xs : List Position) → q < n → Within n xs → Within n (killed q xs)
-killed_within n q xs h within k l d = killed_bears_others q k xs (λ e. omega arith) d ∙ within k l d
+pub one_live : (n : ℕ) (xs : List Position) → Within n xs → Once xs → OneLivePosition n xs
+one_live n xs within once = record { once = once; within = within; lean = few_live n xs within once }
 
-pub killed_once : (q : ℕ) (xs : List Position) → Once xs → Once (killed q xs)
-killed_once q xs once k d =
+pub one_live_none : (n : ℕ) → OneLivePosition n []
+one_live_none n = one_live n [] (λ k l d. bearing_nil k) (λ k d. let z = bearing_nil k in omega arith)
+
+pub one_live_killed : (n q : ℕ) (xs : List Position) → q < n → OneLivePosition n xs → OneLivePosition n (killed q xs)
+one_live_killed n q xs h v =
+    one_live n (killed q xs)
+    (λ k l d. killed_bears_others q k xs (λ e. omega arith) d ∙ v.within k l d)
+    (λ k d.
     ⊎_elim
     (λ (e : k ≡ q). let z = ap (λ j. bearing j (killed q xs)) e ∙ killed_bears_none q xs (λ f. d (e ∙ f)) in omega arith)
-    (λ (e : k ≡ q → ⊥). let z = killed_bears_others q k xs e d in let o = once k d in omega arith)
-    (cases_eq k q)
+    (λ (e : k ≡ q → ⊥). let z = killed_bears_others q k xs e d in let o = v.once k d in omega arith)
+    (cases_eq k q))
 
-pub live_within : (n : ℕ) (xs : List Position) → Within n xs → Within n (live xs)
-live_within n xs within k l d = live_bears k xs d ∙ within k l d
-
-pub live_once : (xs : List Position) → Once xs → Once (live xs)
-live_once xs once k d = let z = live_bears k xs d in let o = once k d in omega arith
+pub one_live_compacted : (n : ℕ) (xs : List Position) → OneLivePosition n xs → OneLivePosition n (live xs)
+one_live_compacted n xs v =
+    one_live n (live xs)
+    (λ k l d. live_bears k xs d ∙ v.within k l d)
+    (λ k d. let z = live_bears k xs d in let o = v.once k d in omega arith)
 
 end_bears : (k q : ℕ) (page : Page) (xs : List Position) → (k ≡ q → ⊥) → bearing k (xs ++ at q page ∷ []) ≡ bearing k xs
 end_bears k q page xs ne =
@@ -283,11 +289,11 @@ end_bears k q page xs ne =
     let z = bearing_nil k in
     omega arith
 
-pub end_within : (n q : ℕ) (page : Page) (xs : List Position) → q < n → Within n xs → Within n (xs ++ at q page ∷ [])
-end_within n q page xs h within k l d = end_bears k q page xs (λ e. omega arith) ∙ within k l d
-
-pub end_once : (q : ℕ) (page : Page) (xs : List Position) → bearing q xs ≡ 0 → Once xs → Once (xs ++ at q page ∷ [])
-end_once q page xs none once k d =
+pub one_live_appended : (n q : ℕ) (page : Page) (xs : List Position) → q < n → bearing q xs ≡ 0 → OneLivePosition n xs → OneLivePosition n (xs ++ at q page ∷ [])
+one_live_appended n q page xs h none v =
+    one_live n (xs ++ at q page ∷ [])
+    (λ k l d. end_bears k q page xs (λ e. omega arith) ∙ v.within k l d)
+    (λ k d.
     ⊎_elim
     (λ (e : k ≡ q).
     let m : bearing k xs ≡ 0 = ap (λ j. bearing j xs) e ∙ none in
@@ -295,8 +301,8 @@ end_once q page xs none once k d =
     let b = bearing_here k (at q page) [] (sym e) in
     let z = bearing_nil k in
     omega arith)
-    (λ (e : k ≡ q → ⊥). let z = end_bears k q page xs e in let o = once k d in omega arith)
-    (cases_eq k q)
+    (λ (e : k ≡ q → ⊥). let z = end_bears k q page xs e in let o = v.once k d in omega arith)
+    (cases_eq k q))
 
 -- what the store says of a slot
 pub log_slot : (p n q : ℕ) (xs : List Position) → q < n → slot_of (log_of p n xs) q ≡ slot_in xs q

@@ -6,6 +6,7 @@ pub mod calls;
 mod moves;
 
 // Pages in lent memory in the order in which they were put, each with the number of its slot.
+// The layout is given: numbers and pages in two lent arrays side by side, and the end of what is in use.
 #[derive(Drop)]
 pub struct SwapLog<'a> {
     numbers: &'a mut [u16],

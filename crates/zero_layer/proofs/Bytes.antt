@@ -1,8 +1,8 @@
-use Rattle.std.proofs.Common.{◌≡◌, ℕ, zero, suc, ◌+◌, ◌<◌, Bool, true, false, ◌&&◌, eqb, List, [], ◌∷◌, length, get_or, drop, MatchBool, sym, refl, ap, ◌∙◌, arith}
+use Rattle.std.proofs.Common.{◌≡◌, ℕ, zero, suc, Bool, true, false, ◌&&◌, eqb, List, [], ◌∷◌, length, MatchBool, sym, refl, ap, ◌∙◌, arith}
 use lib.Bits.{bit_or, or_add_and, and_le_l, and_le_r}
-use Rattle.std.proofs.lemmas.List.{at_drop_more, at_drop_all}
 use Rattle.std.proofs.lemmas.Bool.{eqb-true, and_parts, both_ways}
 use Rattle.std.proofs.lemmas.Bool.Decides.{nat_tests}
+use Rattle.std.specs.List.{fold}
 use Rattle.zero_layer.specs.Zeros.{zeros, is_zeros}
 
 -- Pages of zeros.
@@ -34,24 +34,15 @@ or_is_zero a b =
     let right = and_le_r a b in
     grind (arith, nat_tests)
 
--- one byte more
-pub seen_more : (a i : ℕ) (bs : List ℕ) → i < length bs → (eqb (bit_or a (get_or bs i 0)) 0 && is_zeros (drop (i + 1) bs)) ≡ (eqb a 0 && is_zeros (drop i bs))
+pub joined : (a : ℕ) (bs : List ℕ) → eqb (fold (λ x b. bit_or x b) a bs) 0 ≡ (eqb a 0 && is_zeros bs)
 unfolding is_zeros
-seen_more a i bs h =
-    let e : is_zeros (drop i bs) ≡ (eqb (get_or bs i 0) 0 && is_zeros (drop (i + 1) bs)) = at_drop_more is_zeros bs i 0 h in
-    rw (or_is_zero a (get_or bs i 0), e) (regroup (eqb a 0) (eqb (get_or bs i 0) 0) (is_zeros (drop (i + 1) bs)))
+joined a [] = plain (eqb a 0)
+  where
+    plain : (x : Bool) → x ≡ (x && true)
+    plain true = refl
+    plain false = refl
+joined a (b ∷ bs) = joined (bit_or a b) bs ∙ ap (λ t. t && is_zeros bs) (or_is_zero a b) ∙ regroup (eqb a 0) (eqb b 0) (is_zeros bs)
   where
     regroup : (x y z : Bool) → ((x && y) && z) ≡ (x && (y && z))
     regroup true y z = refl
     regroup false y z = refl
-
--- no byte left
-pub seen_all : (a i : ℕ) (bs : List ℕ) → length bs ≡ i → (eqb a 0 && is_zeros (drop i bs)) ≡ eqb a 0
-unfolding is_zeros
-seen_all a i bs h =
-    let e : is_zeros (drop i bs) ≡ true = at_drop_all is_zeros bs i (omega arith) in
-    rw e (plain (eqb a 0))
-  where
-    plain : (x : Bool) → (x && true) ≡ x
-    plain true = refl
-    plain false = refl

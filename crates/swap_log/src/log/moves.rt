@@ -8,8 +8,5 @@ pub fn copy_page(bytes: &mut [u8], page: usize, from: usize, to: usize)
     ensures { bytes.new ≡ with_page_at page bytes.old to (page_at page bytes.old from) }
 {
     let source = from * page;
-    let target = to * page;
-    for k in 0..page {
-        bytes[target + k] = bytes[source + k];
-    }
+    bytes.copy_within(source..source + page, to * page);
 }

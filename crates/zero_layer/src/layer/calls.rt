@@ -11,86 +11,84 @@ use super::ZeroLayer;
 use crate::zeros::is_zero;
 use page_store::{PageStore, Refusal};
 
+// In put and empty, `self.check_slot` would ask the reference, which is a store too: hence `(*self)`.
 impl<S: PageStore> PageStore for ZeroLayer<S> {
-    ghost model = { λ s. model_of S.PageStore.model s };
+    ghost model = { λ s. model_of S.PageStore s };
 
-    ghost sound = { λ s. layer_sound (layer_of S.PageStore.model s) (S.PageStore.sound s.below) };
+    ghost sound = { λ s. layer_sound (record { below = S.PageStore.model s.below; marks = s.marks }) (S.PageStore.sound s.below) };
 
     fn page_size(&self) -> usize
-        ensures store { result ≡ (model_of S.PageStore.model self.now).page }
+        ensures store { result ≡ (model_of S.PageStore self.now).page }
         ensures that_of_the_store_below { result ≡ (S.PageStore.model self.now.below).page }
     {
         self.below.page_size()
     }
 
     fn slot_count(&self) -> usize
-        ensures store { result ≡ size_of (model_of S.PageStore.model self.now) }
+        ensures store { result ≡ size_of (model_of S.PageStore self.now) }
         ensures that_of_the_store_below { result ≡ size_of (S.PageStore.model self.now.below) }
     {
         self.below.slot_count()
     }
 
+    #[tactic(auto, using(crate::proofs::Layers::checked_few))]
     fn is_full(&self, slot: usize) -> Result<bool, Refusal>
-        ensures store { Asked (model_of S.PageStore.model self.now) slot result }
-        ensures mark_or_store_below_tells { result ≡ answer (ask_refusal (model_of S.PageStore.model self.now) slot) (slice_index_or self.now.marks slot false || is_full (S.PageStore.model self.now.below) slot) }
+        ensures store { Asked (model_of S.PageStore self.now) slot result }
+        ensures mark_or_store_below_tells { result ≡ answer (ask_refusal (model_of S.PageStore self.now) slot) (slice_index_or self.now.marks slot false || is_full (S.PageStore.model self.now.below) slot) }
     {
-        if slot >= self.slot_count() {
-            return Err(Refusal::NoSuchSlot);
-        }
-        if self.is_marked(slot) {
+        self.check_slot(slot)?;
+        if self.marks[slot] {
             return Ok(true);
         }
         self.below.is_full(slot)
     }
 
+    #[tactic(auto, using(crate::proofs::Layers::checked_few))]
     fn fetch(&self, slot: usize, buffer: &mut [u8]) -> Result<(), Refusal>
-        ensures store { Fetched (model_of S.PageStore.model self.now) slot buffer.old buffer.new result }
-        ensures marked_slots_give_zeros { buffer.new ≡ after (fetch_refusal (model_of S.PageStore.model self.now) slot (length buffer.old)) (if slice_index_or self.now.marks slot false then zeros (length buffer.old) else unwrap_or (slot_of (S.PageStore.model self.now.below) slot) buffer.old) buffer.old }
+        ensures store { Fetched (model_of S.PageStore self.now) slot buffer.old buffer.new result }
+        ensures marked_slots_give_zeros { buffer.new ≡ after (fetch_refusal (model_of S.PageStore self.now) slot (length buffer.old)) (if slice_index_or self.now.marks slot false then zeros (length buffer.old) else unwrap_or (slot_of (S.PageStore.model self.now.below) slot) buffer.old) buffer.old }
     {
-        if buffer.len() != self.page_size() {
-            return Err(Refusal::WrongLength);
-        }
-        if slot >= self.slot_count() {
-            return Err(Refusal::NoSuchSlot);
-        }
-        if self.is_marked(slot) {
+        self.check_length(buffer.len())?;
+        self.check_slot(slot)?;
+        if self.marks[slot] {
             buffer.fill(0);
             return Ok(());
         }
         self.below.fetch(slot, buffer)
     }
 
+    #[tactic(auto, using(crate::proofs::Layers::checked_few))]
     fn put(&mut self, slot: usize, page: &[u8]) -> Result<(), Refusal>
-        ensures store { Put (model_of S.PageStore.model self.old) (model_of S.PageStore.model self.new) slot page.now result }
-        ensures zero_pages_are_not_kept_below { S.PageStore.model self.new.below ≡ after (put_refusal (model_of S.PageStore.model self.old) slot (length page.now)) (with_slot (S.PageStore.model self.old.below) slot (if is_zeros page.now then None else Some page.now)) (S.PageStore.model self.old.below) }
-        ensures zero_pages_are_marked { self.new.marks ≡ after (put_refusal (model_of S.PageStore.model self.old) slot (length page.now)) (slice_set self.old.marks slot (is_zeros page.now)) self.old.marks }
-        ensures marked_slots_stay_empty_below { Tidy (layer_of S.PageStore.model self.old) → Tidy (layer_of S.PageStore.model self.new) }
+        ensures store { Put (model_of S.PageStore self.old) (model_of S.PageStore self.new) slot page.now result }
+        ensures zero_pages_are_not_kept_below { S.PageStore.model self.new.below ≡ after (put_refusal (model_of S.PageStore self.old) slot (length page.now)) (with_slot (S.PageStore.model self.old.below) slot (if is_zeros page.now then None else Some page.now)) (S.PageStore.model self.old.below) }
+        ensures zero_pages_are_marked { self.new.marks ≡ after (put_refusal (model_of S.PageStore self.old) slot (length page.now)) (slice_set self.old.marks slot (is_zeros page.now)) self.old.marks }
         ensures no_page_of_zeros_comes_below { NoZeroPage (S.PageStore.model self.old.below) → NoZeroPage (S.PageStore.model self.new.below) }
     {
-        if page.len() != self.page_size() {
-            return Err(Refusal::WrongLength);
-        }
-        if slot >= self.slot_count() {
-            return Err(Refusal::NoSuchSlot);
-        }
+        (*self).check_length(page.len())?;
+        (*self).check_slot(slot)?;
         if is_zero(page) {
-            self.keep_zeros(slot);
+            // refused if there is nothing below, which is as well
+            let _ = self.below.empty(slot);
+            self.marks[slot] = true;
             return Ok(());
         }
-        self.keep_below(slot, page)
+        self.marks[slot] = false;
+        self.below.put(slot, page)
     }
 
+    #[tactic(auto, using(crate::proofs::Layers::checked_few))]
     fn empty(&mut self, slot: usize) -> Result<(), Refusal>
-        ensures store { Emptied (model_of S.PageStore.model self.old) (model_of S.PageStore.model self.new) slot result }
-        ensures nothing_is_left_below { S.PageStore.model self.new.below ≡ after (empty_refusal (model_of S.PageStore.model self.old) slot) (with_slot (S.PageStore.model self.old.below) slot None) (S.PageStore.model self.old.below) }
-        ensures mark_is_cleared { self.new.marks ≡ after (empty_refusal (model_of S.PageStore.model self.old) slot) (slice_set self.old.marks slot false) self.old.marks }
-        ensures marked_slots_stay_empty_below { Tidy (layer_of S.PageStore.model self.old) → Tidy (layer_of S.PageStore.model self.new) }
+        ensures store { Emptied (model_of S.PageStore self.old) (model_of S.PageStore self.new) slot result }
+        ensures nothing_is_left_below { S.PageStore.model self.new.below ≡ after (empty_refusal (model_of S.PageStore self.old) slot) (with_slot (S.PageStore.model self.old.below) slot None) (S.PageStore.model self.old.below) }
+        ensures mark_is_cleared { self.new.marks ≡ after (empty_refusal (model_of S.PageStore self.old) slot) (slice_set self.old.marks slot false) self.old.marks }
         ensures no_page_of_zeros_comes_below { NoZeroPage (S.PageStore.model self.old.below) → NoZeroPage (S.PageStore.model self.new.below) }
     {
-        if slot >= self.slot_count() {
-            return Err(Refusal::NoSuchSlot);
+        (*self).check_slot(slot)?;
+        if self.marks[slot] {
+            self.marks[slot] = false;
+            return Ok(());
         }
-        self.clear(slot)
+        self.below.empty(slot)
     }
 }
 
@@ -99,67 +97,11 @@ impl<S: PageStore> ZeroLayer<S> {
     pub fn new(below: S) -> ZeroLayer<S>
         ensures no_mark_is_set { result.marks ≡ replicate 2048 false }
         ensures stands_over_the_store_handed_in { result.below ≡ below }
-        ensures pages_below_show_through { model_of S.PageStore.model result ≡ S.PageStore.model below }
-        ensures marked_slots_are_empty_below { Tidy (layer_of S.PageStore.model result) }
+        ensures pages_below_show_through { model_of S.PageStore result ≡ S.PageStore.model below }
     {
         ZeroLayer {
             below,
             marks: [false; 2048],
         }
-    }
-
-    fn is_marked(&self, slot: usize) -> bool
-        requires { slot < size_of (S.PageStore.model self.now.below) }
-        ensures mark { result ≡ slice_index_or self.now.marks slot false }
-        ensures slot { slot_of (model_of S.PageStore.model self.now) slot ≡ slot_at (layer_of S.PageStore.model self.now) slot }
-    {
-        self.marks[slot]
-    }
-
-    // Makes a slot hold a page of zeros.
-    fn keep_zeros(&mut self, slot: usize)
-        requires { slot < size_of (S.PageStore.model self.old.below) }
-        ensures below { S.PageStore.model self.new.below ≡ with_slot (S.PageStore.model self.old.below) slot None }
-        ensures marks { self.new.marks ≡ slice_set self.old.marks slot true }
-        ensures model { model_of S.PageStore.model self.new ≡ with_slot (model_of S.PageStore.model self.old) slot (Some (zeros (S.PageStore.model self.old.below).page)) }
-        ensures tidy { Tidy (layer_of S.PageStore.model self.old) → Tidy (layer_of S.PageStore.model self.new) }
-        ensures free { NoZeroPage (S.PageStore.model self.old.below) → NoZeroPage (S.PageStore.model self.new.below) }
-    {
-        // refused if there is nothing below, which is as well
-        let _ = self.below.empty(slot);
-        self.marks[slot] = true;
-    }
-
-    // Makes a slot hold a page of which some byte is not zero.
-    fn keep_below(&mut self, slot: usize, page: &[u8]) -> Result<(), Refusal>
-        requires slot { slot < size_of (S.PageStore.model self.old.below) }
-        requires size { length page.now ≡ (S.PageStore.model self.old.below).page }
-        ensures answers { result ≡ Ok tt }
-        ensures below { S.PageStore.model self.new.below ≡ with_slot (S.PageStore.model self.old.below) slot (Some page.now) }
-        ensures marks { self.new.marks ≡ slice_set self.old.marks slot false }
-        ensures model { model_of S.PageStore.model self.new ≡ with_slot (model_of S.PageStore.model self.old) slot (Some page.now) }
-        ensures tidy { Tidy (layer_of S.PageStore.model self.old) → Tidy (layer_of S.PageStore.model self.new) }
-        ensures free { is_zeros page.now ≡ false → NoZeroPage (S.PageStore.model self.old.below) → NoZeroPage (S.PageStore.model self.new.below) }
-    {
-        self.marks[slot] = false;
-        self.below.put(slot, page)
-    }
-
-    // Leaves a slot with neither a mark nor a page below, and refuses where it had neither.
-    fn clear(&mut self, slot: usize) -> Result<(), Refusal>
-        requires { slot < size_of (S.PageStore.model self.old.below) }
-        ensures answers { result ≡ answer (empty_refusal (model_of S.PageStore.model self.old) slot) tt }
-        ensures below { S.PageStore.model self.new.below ≡ after (empty_refusal (model_of S.PageStore.model self.old) slot) (with_slot (S.PageStore.model self.old.below) slot None) (S.PageStore.model self.old.below) }
-        ensures marks { self.new.marks ≡ after (empty_refusal (model_of S.PageStore.model self.old) slot) (slice_set self.old.marks slot false) self.old.marks }
-        ensures model { model_of S.PageStore.model self.new ≡ after (empty_refusal (model_of S.PageStore.model self.old) slot) (with_slot (model_of S.PageStore.model self.old) slot None) (model_of S.PageStore.model self.old) }
-        ensures tidy { Tidy (layer_of S.PageStore.model self.old) → Tidy (layer_of S.PageStore.model self.new) }
-        ensures free { NoZeroPage (S.PageStore.model self.old.below) → NoZeroPage (S.PageStore.model self.new.below) }
-    {
-        let emptied = self.below.empty(slot);
-        if self.marks[slot] {
-            self.marks[slot] = false;
-            return Ok(());
-        }
-        emptied
     }
 }

@@ -1,34 +1,49 @@
-use Rattle.std.proofs.Common.{◌≡◌, ◌<◌, true, false, cond, eqb, length, sym, refl, ap, ◌∙◌, arith}
-use Rattle.std.proofs.lemmas.Bool.{eq-eqb, ne_eqb}
-use Rattle.swap_log.specs.Layout.{live}
-use Rattle.swap_log.specs.Meaning.{positions_of, position_count}
-use Rattle.swap_log.proofs.Arrays.{positions_length}
-use Rattle.swap_log.proofs.Founds.{none_here}
-use Rattle.swap_log.proofs.Positions.{fewer_live}
+use Rattle.std.proofs.Common.{◌≡◌, ℕ, List, sym, ap, ◌∙◌, subst, arith}
+use Rattle.swap_log.specs.Layout.{positions_in, live, OneLivePosition, log_of}
+use Rattle.swap_log.specs.Meaning.{positions_of}
+use Rattle.swap_log.specs.declared.log.SwapLog.{SwapLog}
+use Rattle.swap_log.proofs.Arrays.{Squeezed, squeeze_none, squeeze_dead, squeeze_live}
+use Rattle.swap_log.proofs.Founds.{room_there, room_made, one_live_log}
+use Rattle.swap_log.proofs.Positions.{one_live_compacted, log_live}
 use Rattle.swap_log.proofs.log.SwapLog.make_room.Goals as goal
+use Rattle.swap_log.proofs.log.SwapLog.make_room.Goals.{then-number, else-number}
 
-pub returns-then-self : goal.returns-then-self
-returns-then-self c =
-    let s = c.args.self.now in
-    let t = c.compact.new.self in
-    let q = c.args.slot in
-    let xs = positions_of s in
-    let full : length xs ≡ position_count s = positions_length s.page s.numbers.now s.bytes.now s.end ∙ c.if-self.true in
-    let test : eqb (length xs) (position_count s) ≡ true = eq-eqb (length xs) (position_count s) full in
-    let none = none_here s q c.requires.slot c.requires.gone in
-    let few : length (live xs) < s.count = fewer_live s.count q xs s.few c.requires.slot none s.within s.once in
-    let e : t.end ≡ length (live xs) = sym (positions_length t.page t.numbers.now t.bytes.now t.end) ∙ ap length c.compact.ensures.positions in
-    record {
-      positions = c.compact.ensures.positions ∙ sym (ap (λ b. cond b (live xs) xs) test);
-      model = c.compact.ensures.model;
-      sizes = c.compact.ensures.sizes;
-      room = omega (arith, few, e, s.room, c.compact.ensures.sizes.1);
-    }
+-- what the loop leaves in use, when it has gone over all positions
+squeezed : (s : SwapLog) (ms cs : List ℕ) (i j : ℕ) → Squeezed s.page s.numbers.now s.bytes.now ms cs i j → i ≡ s.end → positions_in s.page ms cs j ≡ live (positions_of s)
+squeezed s ms cs i j v e = v.front ∙ ap (λ k. live (positions_in s.page s.numbers.now s.bytes.now k)) e
 
-pub returns-else-self : goal.returns-else-self
-returns-else-self c =
+one_live_squeezed : (s : SwapLog) (ms cs : List ℕ) (i j : ℕ) → Squeezed s.page s.numbers.now s.bytes.now ms cs i j → i ≡ s.end → OneLivePosition s.count (positions_in s.page ms cs j)
+one_live_squeezed s ms cs i j v e = subst (OneLivePosition s.count) (sym (squeezed s ms cs i j v e)) (one_live_compacted s.count (positions_of s) (one_live_log s))
+
+pub returns-then-self-clause-positions : goal.returns-then-self-clause-positions
+returns-then-self-clause-positions c = room_there c.args.self.now c.if-self.true
+
+pub loop-at-init : goal.loop-at-init
+loop-at-init c = let s = c.args.self.now in squeeze_none s.page s.numbers.now s.bytes.now s.bounded
+
+pub loop-at-preserved : goal.loop-at-preserved
+loop-at-preserved c =
     let s = c.args.self.now in
-    let xs = positions_of s in
-    let l = positions_length s.page s.numbers.now s.bytes.now s.end in
-    let test : eqb (length xs) (position_count s) ≡ false = ne_eqb (length xs) (position_count s) (λ z. c.if-self.false (sym l ∙ z)) in
-    record { positions = sym (ap (λ b. cond b (live xs) xs) test); model = refl; sizes = (refl, refl); room = omega (arith, s.used, c.if-self.false) }
+    elim c.if-number.branch [
+      | then-number w ↦ rw (w.numbers-is, w.bytes-is, w.front-is, w.copy_page.ensures) (squeeze_live _ _ _ _ _ _ _ c.loop-at.invariant (omega (arith, s.used)) s.whole w.if-number.true)
+      | else-number w ↦ rw (w.numbers-is, w.bytes-is, w.front-is) (squeeze_dead _ _ _ _ _ _ _ c.loop-at.invariant w.if-number.false)
+    ]
+
+pub invariant_of-self-clause-within : goal.invariant_of-self-clause-within
+invariant_of-self-clause-within c = (one_live_squeezed c.args.self.now _ _ _ _ c.loop-at.invariant (omega arith)).within
+
+pub invariant_of-self-clause-once : goal.invariant_of-self-clause-once
+invariant_of-self-clause-once c = (one_live_squeezed c.args.self.now _ _ _ _ c.loop-at.invariant (omega arith)).once
+
+pub invariant_of-self-clause-lean : goal.invariant_of-self-clause-lean
+invariant_of-self-clause-lean c = (one_live_squeezed c.args.self.now _ _ _ _ c.loop-at.invariant (omega arith)).lean
+
+pub returns-clause-positions : goal.returns-clause-positions
+returns-clause-positions c =
+    let s = c.args.self.now in
+    squeezed s _ _ _ _ c.loop-at.invariant (omega arith) ∙ room_made s c.if-self.false
+
+pub returns-clause-model : goal.returns-clause-model
+returns-clause-model c =
+    let s = c.args.self.now in
+    ap (log_of s.page s.count) (squeezed s _ _ _ _ c.loop-at.invariant (omega arith)) ∙ log_live s.page s.count (positions_of s) s.few

@@ -1,36 +1,22 @@
-use Rattle.std.proofs.Common.{length, refl, arith}
+use Rattle.std.proofs.Common.{get_or, rules, Fits, w8}
 use Rattle.swap_log.proofs.Arrays.{positions_none}
-use Rattle.swap_log.specs.Layout.{positions_in}
-use Rattle.swap_log.proofs.Positions.{few_live}
-use Rattle.swap_log.proofs.Made.{accepted, nothing_within, nothing_once, log_starts}
+use Rattle.swap_log.proofs.Made.{log_starts, one_live_starts}
 use Rattle.swap_log.proofs.log.SwapLog.new.Goals as goal
 
-pub invariant_of-result : goal.invariant_of-result
-invariant_of-result c =
-    let p = c.args.page in
-    let ns = c.args.numbers.now in
-    let bs = c.args.bytes.now in
-    let a = accepted p c.args.count c.args.positions (length ns) (length bs) c.requires in
-    let within = nothing_within c.args.count p ns bs in
-    let once = nothing_once p ns bs in
-    record {
-      sized = a.sized;
-      some = a.some;
-      few = a.few;
-      room = a.room;
-      most = a.most;
-      whole = a.whole;
-      used = omega arith;
-      bounded = c.tell_bytes.ensures;
-      within = within;
-      once = once;
-      lean = few_live c.args.count (positions_in p ns bs 0) within once;
-    }
+pub invariant_of-result-clause-bounded : goal.invariant_of-result-clause-bounded
+invariant_of-result-clause-bounded c = λ k h. let byte : Fits w8 (get_or c.args.bytes.now k 0) = search rules in byte.fits
 
-pub returns : goal.returns
-returns c =
-    record {
-      starts_empty = log_starts c.args.page c.args.count c.args.numbers.now c.args.bytes.now;
-      no_position_is_in_use = positions_none c.args.page c.args.numbers.now c.args.bytes.now;
-      keeps_the_memory = (refl, refl);
-    }
+pub invariant_of-result-clause-within : goal.invariant_of-result-clause-within
+invariant_of-result-clause-within c = (one_live_starts c.args.count c.args.page c.args.numbers.now c.args.bytes.now).within
+
+pub invariant_of-result-clause-once : goal.invariant_of-result-clause-once
+invariant_of-result-clause-once c = (one_live_starts c.args.count c.args.page c.args.numbers.now c.args.bytes.now).once
+
+pub invariant_of-result-clause-lean : goal.invariant_of-result-clause-lean
+invariant_of-result-clause-lean c = (one_live_starts c.args.count c.args.page c.args.numbers.now c.args.bytes.now).lean
+
+pub returns-clause-starts_empty : goal.returns-clause-starts_empty
+returns-clause-starts_empty c = log_starts c.args.page c.args.count c.args.numbers.now c.args.bytes.now
+
+pub returns-clause-no_position_is_in_use : goal.returns-clause-no_position_is_in_use
+returns-clause-no_position_is_in_use c = positions_none c.args.page c.args.numbers.now c.args.bytes.now

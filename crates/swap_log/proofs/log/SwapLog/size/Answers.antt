@@ -1,7 +1,0 @@
-use Rattle.std.proofs.Common.{sym, refl}
-use Rattle.swap_log.specs.Meaning.{positions_of}
-use Rattle.swap_log.proofs.Positions.{log_size}
-use Rattle.swap_log.proofs.log.SwapLog.size.Goals as goal
-
-pub returns : goal.returns
-returns c = let s = c.args.self.now in record { count = refl; slots = sym (log_size s.page s.count (positions_of s)) }
