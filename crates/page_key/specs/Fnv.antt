@@ -1,4 +1,4 @@
-use Rattle.std.specs.Prelude.{◌≡◌, ℕ, ◌*◌, ◌%◌, ◌^◌, List, [], ◌∷◌, replicate, codes, bit_xor}
+use Rattle.std.specs.Prelude.{◌≡◌, ℕ, ◌*◌, ◌%◌, ◌^◌, List, [], ◌∷◌, fold, replicate, codes, bit_xor}
 
 -- 64-bit FNV-1a, by Fowler, Noll and Vo.
 
@@ -8,8 +8,7 @@ after_byte h b = (bit_xor h b * 1099511628211) % (2 ^ 64)
 
 -- the value after all bytes, from the first to the last
 abbrev pub after_bytes : ℕ → List ℕ → ℕ
-after_bytes h [] = h
-after_bytes h (b ∷ bs) = after_bytes (after_byte h b) bs
+after_bytes h bs = fold after_byte h bs
 
 abbrev pub key_of : List ℕ → ℕ
 key_of bs = after_bytes 14695981039346656037 bs

@@ -1,5 +1,5 @@
 use Rattle.std.proofs.Common.{◌≡◌, ℕ, ◌-◌, ◌*◌, ◌^◌, ◌<◌, ◌≤◌, true, List, length, Some, mul-le-mul_right, mul-le-mul, mul_right_comm, le_of_mul-le-mul_right, arith}
-use Rattle.std.proofs.lemmas.Bool.{ltb-true, ltb-false, le-ltb}
+use Rattle.std.proofs.lemmas.Bool.Decides.{nat_tests}
 use Rattle.policy.specs.declared.row.Row.{Row}
 use Rattle.policy.specs.Rows.{row_at, Limits, all_within}
 use Rattle.policy.specs.Funding.{cost_of, pays_less, funding_choice, LowestRatio}
@@ -32,21 +32,11 @@ cross sx cx sy cy sz cz pos h k =
 ratio_orders : (t : ℕ) → Orders (λ row. 1 ≤ cost_of t row) (pays_less t)
 ratio_orders t =
     record {
-      one_way = λ x y h. le-ltb (y.shares * cost_of t x) (x.shares * cost_of t y) (omega (arith, ltb-true (x.shares * cost_of t y) (y.shares * cost_of t x) h));
-      chain =
-          λ x y z pos h k.
-          le-ltb (x.shares * cost_of t z) (z.shares * cost_of t x)
-          (cross x.shares (cost_of t x) y.shares (cost_of t y) z.shares (cost_of t z) pos
-          (ltb-false (x.shares * cost_of t y) (y.shares * cost_of t x) h)
-          (ltb-false (y.shares * cost_of t z) (z.shares * cost_of t y) k));
+      one_way = λ x y h. grind (arith, nat_tests);
+      chain = λ x y z pos h k. grind (arith, nat_tests, cross x.shares (cost_of t x) y.shares (cost_of t y) z.shares (cost_of t z) pos);
     }
 
 pub lowest_ratio : (t : ℕ) (rows : List Row) (c : ℕ) → t ≤ 99 → all_within rows ≡ true → funding_choice t rows ≡ Some c → LowestRatio t rows c
 lowest_ratio t rows c h within e =
     let first = best_is_first _ (pays_less t) (ratio_orders t) rows (λ j o. cost_least t (row_at rows j) h (limits_at rows j within) o) (length rows) c e in
-    record {
-      no_offered_row_pays_less =
-          λ j o. ltb-false ((row_at rows j).shares * cost_of t (row_at rows c)) ((row_at rows c).shares * cost_of t (row_at rows j)) (first.none_before j (offered_below rows j o) o);
-      each_before_it_pays_more =
-          λ j l o. ltb-true ((row_at rows c).shares * cost_of t (row_at rows j)) ((row_at rows j).shares * cost_of t (row_at rows c)) (first.before_the_earlier j l o);
-    }
+    grind (arith, nat_tests, first.none_before, first.before_the_earlier, offered_below rows)

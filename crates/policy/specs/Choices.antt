@@ -1,6 +1,13 @@
 use Rattle.std.specs.Prelude.{◌≡◌, ℕ, zero, suc, ◌<◌, Bool, true, false, cond, ◌&&◌, List, length, Some, None, Option}
+use Rattle.std.specs.Fn.{Shared}
+use denote.Ref.{Bor}
+use Rattle.policy.specs.declared.bounded.BoundedRow.{BoundedRow}
 use Rattle.policy.specs.declared.row.Row.{Row}
 use Rattle.policy.specs.Rows.{row_at, offered_at}
+
+-- each call of a comparison answers as `before` does of the two rows
+abbrev pub AnswersAs : {F : Type 0} → Shared F (Bor BoundedRow × (Bor BoundedRow × Unit {0})) Bool → F → (Row → Row → Bool) → Type 0
+AnswersAs g f before = (x y : Bor BoundedRow) (r : Bool) → g.post f (x, (y, tt)) r → r ≡ before x.now.row y.now.row
 
 -- Whether row g is taken in place of the best of the rows below g: it is offered, and there is none yet or it goes strictly before that.
 abbrev pub takes_over : (Row → Row → Bool) → List Row → Option ℕ → ℕ → Bool

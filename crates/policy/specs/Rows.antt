@@ -1,4 +1,5 @@
-use Rattle.std.specs.Prelude.{◌≡◌, ℕ, ◌≤◌, Bool, true, false, cond, ◌&&◌, List, [], ◌∷◌, length, is_some, Some, None, Option, nat_le, slice_index_or}
+use Rattle.std.specs.Prelude.{◌≡◌, ℕ, ◌≤◌, Bool, true, false, cond, ◌&&◌, List, length, is_some, Some, None, Option, nat_le, slice_index_or}
+use Rattle.std.specs.List.{list_all}
 use Rattle.policy.specs.declared.row.Row.{Row}
 
 -- the row of a guest that is not admitted
@@ -17,9 +18,8 @@ abbrev pub is_within : Row → Bool
 is_within row = is_counted row && cond row.offered (is_eligible row) true
 
 -- every row is within its limits
-unfoldable pub all_within : List Row → Bool
-all_within [] = true
-all_within (row ∷ rows) = is_within row && all_within rows
+abbrev pub all_within : List Row → Bool
+all_within rows = list_all is_within rows
 
 -- what the making of rows answers: these rows, or nothing where one is out of its limits
 abbrev pub taken : List Row → Option (List Row)

@@ -21,6 +21,7 @@ pub fn letters() -> [char; 2]
 }
 
 // Worked examples. It does nothing; its contract is the table.
+#[tactic(auto, unfolding(crate::specs::Choices::best_below))]
 pub fn worked_choices()
     ensures by_min_funding { WorkedByM }
     ensures by_lru { WorkedByL }

@@ -1,8 +1,6 @@
 #![tactic(auto)]
 
-ghost use Rattle.std.specs.Prelude.{◌≡◌};
-ghost use Rattle.policy.specs.Refusals.{number_of};
-
+mod bounded;
 mod compare;
 mod funding;
 mod laws;
@@ -19,14 +17,3 @@ pub use policy::Policy;
 pub use refusal::Refusal;
 pub use row::Row;
 pub use rows::Rows;
-
-impl Refusal {
-    // The number by which a refusal is known.
-    pub fn number(self) -> u8
-        ensures { result ≡ number_of self }
-    {
-        match self {
-            Refusal::Tax => 8,
-        }
-    }
-}

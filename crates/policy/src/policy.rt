@@ -14,10 +14,10 @@ pub trait Policy {
     // the number of the row that is chosen, or nobody
     ghost choice: { Self → List Row → Option ℕ };
 
-    // the proof that it is an offered row, and nobody only where none is offered
-    ghost promise: { (p : Self) (rows : List Row) → EightRows rows → Lawful rows (choice p rows) };
-
     // Chooses among eight rows.
     fn choose(&self, rows: &Rows) -> Option<usize>
         ensures { result ≡ choice self.now (rows_of rows.now) };
+
+    // it is an offered row, and nobody only where none is offered
+    ghost promise: { (p : Self) (rows : List Row) → EightRows rows → Lawful rows (choice p rows) };
 }

@@ -1,5 +1,5 @@
 // What a policy is told of one guest.
-#[derive(Clone, Copy, PartialEq, Eq, Debug)]
+#[derive(Clone, Copy, PartialEq, Eq, Debug, Default)]
 pub struct Row {
     // whether the guest may be chosen
     pub offered: bool,

@@ -4,20 +4,14 @@ ghost use Rattle.policy.specs.Meaning.{rows_of, rows_in};
 
 use super::Rows;
 use crate::Row;
+use crate::bounded::BoundedRow;
 
 impl Row {
     // The row of a guest that is not admitted.
     pub fn absent() -> Row
         ensures { result ≡ absent_row }
     {
-        Row {
-            offered: false,
-            resident: 0,
-            active: 0,
-            minimum: 0,
-            shares: 0,
-            rank: None,
-        }
+        Row::default()
     }
 
     fn is_within(&self) -> bool
@@ -36,12 +30,7 @@ impl Row {
 fn are_within(rows: &[Row]) -> bool
     ensures { result ≡ all_within rows.now }
 {
-    for row in rows {
-        if !row.is_within() {
-            return false;
-        }
-    }
-    true
+    rows.iter().all(Row::is_within)
 }
 
 impl Rows {
@@ -60,9 +49,19 @@ impl Rows {
         ensures reads { result ≡ row_at (rows_of self.now) guest }
         ensures keeps_the_limits { Limits result }
     {
-        if guest >= 8 {
-            return Row::absent();
-        }
-        self.rows[guest]
+        self.bounded(guest).row
+    }
+
+    // The same row, known to be within its limits.
+    #[tactic(auto, using(crate::proofs::Within::limits_at))]
+    pub(crate) fn bounded(&self, guest: usize) -> BoundedRow
+        ensures { result.row ≡ row_at (rows_of self.now) guest }
+    {
+        let row = if guest < 8 {
+            self.rows[guest]
+        } else {
+            Row::absent()
+        };
+        BoundedRow { row }
     }
 }
