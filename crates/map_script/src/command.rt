@@ -1,3 +1,5 @@
+use decimal::parse_digits;
+
 // What a line asks for.
 #[derive(Clone, Copy, PartialEq, Eq, Debug)]
 pub enum Command {
@@ -5,38 +7,21 @@ pub enum Command {
     Remove(u64),
     LookUp(u64),
     Count,
-    Bad,
 }
 
 // `E key value`, `R key`, `L key` or `C`, with one space between the words.
-pub fn read(line: &str) -> Command {
+pub fn read(line: &str) -> Option<Command> {
     if line == "C" {
-        return Command::Count;
+        return Some(Command::Count);
     }
-    asked(line).unwrap_or(Command::Bad)
-}
-
-fn asked(line: &str) -> Option<Command> {
     let (letter, rest) = line.split_once(' ')?;
     match letter {
         "E" => {
             let (key, value) = rest.split_once(' ')?;
-            Some(Command::Enter(wide(key)?, narrow(value)?))
+            Some(Command::Enter(parse_digits(key)?, parse_digits(value)?))
         }
-        "R" => Some(Command::Remove(wide(rest)?)),
-        "L" => Some(Command::LookUp(wide(rest)?)),
+        "R" => Some(Command::Remove(parse_digits(rest)?)),
+        "L" => Some(Command::LookUp(parse_digits(rest)?)),
         _ => None,
     }
-}
-
-fn narrow(text: &str) -> Option<u16> {
-    u16::try_from(wide(text)?).ok()
-}
-
-// A number of digits only: `parse` would take a sign before them.
-fn wide(text: &str) -> Option<u64> {
-    if text.starts_with('+') {
-        return None;
-    }
-    text.parse::<u64>().ok()
 }

@@ -5,6 +5,7 @@ mod answer;
 mod command;
 mod play;
 
+use answer::Answer;
 use ordered_map::{Node, OrderedMap};
 use std::io;
 use std::io::{BufRead, BufReader};
@@ -16,9 +17,14 @@ fn main(rt: HostRuntime) -> io::Result<()> {
     let mut most = 0u8;
     for line in BufReader::new(heap, rt.stdin())?.lines(heap) {
         let line = line?;
-        let (answer, count) = play::play(&mut map, command::read(line.as_str()));
-        most = most.max(count);
-        println!(rt; "{answer}")?;
+        let answer = play::play(&mut map, command::read(line.as_str()));
+        if let Some(Answer::Value { comparisons, .. }) = answer {
+            most = most.max(comparisons);
+        }
+        match answer {
+            Some(answer) => println!(rt; "{answer}")?,
+            None => println!(rt; "? bad line")?,
+        }
     }
     if most <= 14 {
         println!(rt; "no look-up took more than 14 comparisons")?;

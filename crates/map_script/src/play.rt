@@ -1,29 +1,26 @@
 ghost use Rattle.std.specs.Prelude.{◌≡◌, ◌≤◌};
-ghost use Rattle.ordered_map.specs.Map.{Sound, pairs_in};
-ghost use Rattle.map_script.specs.Answers.{answer_to, pairs_after};
-ghost use Rattle.std.specs.Ordering.{nat_cmp};
+ghost use Rattle.ordered_map.specs.Map.{pairs_in};
+ghost use Rattle.map_script.specs.Answers.{answer_to, pairs_after, comparisons_of};
 
 use crate::answer::Answer;
 use crate::command::Command;
 use ordered_map::OrderedMap;
 
-// Makes one call, and returns its answer and how many comparisons a look-up took.
-pub fn play(map: &mut OrderedMap<'_, u64>, command: Command) -> (Answer, u8)
-    requires { Sound nat_cmp map.old.nodes.now map.old.head }
-    ensures sound { Sound nat_cmp map.new.nodes.now map.new.head }
-    ensures answers { result.0 ≡ answer_to map.old.nodes.now map.old.head command }
+// Makes the call that a line asks for, and returns its answer. A bad line, which is no command, has none, and leaves the pairs as they are.
+pub fn play(map: &mut OrderedMap<'_, u64>, command: Option<Command>) -> Option<Answer>
+    ensures answers { result ≡ answer_to map.old.nodes.now map.old.head command }
     ensures leaves { pairs_in map.new.nodes.now map.new.head ≡ pairs_after map.old.nodes.now map.old.head command }
-    ensures most { result.1 ≤ 14 }
+    ensures most { comparisons_of result ≤ 14 }
     ensures table { map.new.nodes.ghost_name ≡ map.old.nodes.ghost_name }
 {
-    match command {
-        Command::Enter(key, value) => (Answer::Done(map.enter(key, value)), 0),
-        Command::Remove(key) => (Answer::Done(map.remove(&key)), 0),
+    let answer = match command? {
+        Command::Enter(key, value) => Answer::Done(map.enter(key, value)),
+        Command::Remove(key) => Answer::Done(map.remove(&key)),
         Command::LookUp(key) => {
-            let (value, count) = map.look_up(&key);
-            (Answer::Value(value), count)
+            let (value, comparisons) = map.look_up(&key);
+            Answer::Value { value, comparisons }
         }
-        Command::Count => (Answer::Pairs(map.count()), 0),
-        Command::Bad => (Answer::BadLine, 0),
-    }
+        Command::Count => Answer::Pairs(map.count()),
+    };
+    Some(answer)
 }

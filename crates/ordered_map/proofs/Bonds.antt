@@ -1,13 +1,13 @@
 -- Joining a record to two trees.
-use Rattle.std.proofs.Common.{◌≡◌, ℕ, ◌+◌, ◌<◌, ◌≤◌, max, Bool, true, false, cond, List, length, set, Some, refl, ap, ◌∙◌, arith, length-set}
+use Rattle.std.proofs.Common.{◌≡◌, ℕ, ◌+◌, ◌<◌, ◌≤◌, max, Bool, true, false, cond, List, length, set, Some, Option, refl, ap, ◌∙◌, arith, length-set}
 use Rattle.std.specs.List.{slice_get}
-use Rattle.std.proofs.lemmas.Option.{slice_get_past}
 use Rattle.std.proofs.lemmas.Bool.{eq-eqb, ne_eqb}
 use Rattle.ordered_map.specs.declared.node.Node.{Node}
 use Rattle.ordered_map.specs.Tree.{Tree, leaf, node, top, height, size, occ, one, Balanced}
 use Rattle.ordered_map.specs.Table.{rec, Holds}
 use Rattle.ordered_map.specs.Edit.{height_in, ht, linked, Joined, bond, Loose, Glued, Opened}
-use Rattle.ordered_map.proofs.Nths.{nth_in, nth_set_same, nth_set_other}
+use Rattle.std.proofs.lemmas.Option.{slice_get_within}
+use Rattle.ordered_map.proofs.Nths.{nth_set_same, nth_set_other}
 
 -- ---- places
 
@@ -32,7 +32,7 @@ holds_off ns ms t p k z = holds_kept ns ms t (λ q u. k q (λ e. let y : occ q t
 
 -- ---- a bond
 
-pub top-bond : {K : Type 0} (s : Bool) (p : ℕ) (k : K) (v : ℕ) (a b : Tree K) → top (bond s p k v a b) ≡ p
+pub top-bond : {K : Type 0} (s : Bool) (p : ℕ) (k : K) (v : ℕ) (a b : Tree K) → top (bond s p k v a b) ≡ Some p
 top-bond true p k v a b = refl
 top-bond false p k v a b = refl
 
@@ -62,34 +62,34 @@ holds_bond ns false p k v a b e x y =
     let z : max (height a) (height b) + 1 ≡ max (height b) (height a) + 1 = omega arith in
     (e ∙ ap (λ h. Some (rec k v (top b) (top a) h)) z, y, x)
 
-pub ht-top : {K : Type 0} (ns : List (Node K)) (t : Tree K) → length ns ≤ 1024 → Holds ns t → ht ns (top t) ≡ height t
-ht-top ns leaf s h = ap height_in (slice_get_past ns 65535 (omega arith))
-ht-top ns (node p k v l r) s h = ap height_in h.0
+pub ht-top : {K : Type 0} (ns : List (Node K)) (t : Tree K) → Holds ns t → ht ns (top t) ≡ height t
+ht-top ns leaf h = refl
+ht-top ns (node p k v l r) h = ap height_in h.0
 
 -- ---- open
 
 pub open_tree : {K : Type 0} (ns : List (Node K)) (s : Bool) (a : Tree K) → 0 < height a → Holds ns a → Opened ns s a
 open_tree ns s leaf z h = absurd (omega (arith, z))
-open_tree ns true (node p k v l r) z h = record { key = k; value = v; outer = l; inner = r; is = refl; within = nth_in ns p _ h.0; lies = h.0; held_outer = h.1; held_inner = h.2 }
+open_tree ns true (node p k v l r) z h = record { place = p; key = k; value = v; outer = l; inner = r; at = refl; is = refl; within = slice_get_within ns p _ h.0; lies = h.0; held_outer = h.1; held_inner = h.2 }
 open_tree ns false (node p k v l r) z h =
     let e : max (height l) (height r) + 1 ≡ max (height r) (height l) + 1 = omega arith in
-    record { key = k; value = v; outer = r; inner = l; is = refl; within = nth_in ns p _ h.0; lies = h.0 ∙ ap (λ d. Some (rec k v (top l) (top r) d)) e; held_outer = h.2; held_inner = h.1 }
+    record { place = p; key = k; value = v; outer = r; inner = l; at = refl; is = refl; within = slice_get_within ns p _ h.0; lies = h.0 ∙ ap (λ d. Some (rec k v (top l) (top r) d)) e; held_outer = h.2; held_inner = h.1 }
 
 -- ---- join
 
-module _ {K : Type 0} (ns : List (Node K)) (p : ℕ) (k : K) (v : ℕ) (a b : Tree K) (w : Loose ns p k v a b) (small : length ns ≤ 1024) where
-  pub ready : (near far : ℕ) → near ≡ top a → far ≡ top b → height a < 255 → height b < 255 → (p < length ns) × (ht ns near < 255) × (ht ns far < 255)
-  ready near far e f x y =
-      let l = nth_in ns p w.at w.lies in
-      let g : ht ns near ≡ height a = ap (ht ns) e ∙ ht-top ns a small w.held_a in
-      let h : ht ns far ≡ height b = ap (ht ns) f ∙ ht-top ns b small w.held_b in
+module _ {K : Type 0} {ns : List (Node K)} {p : ℕ} {k : K} {v : ℕ} {a b : Tree K} (w : Loose ns p k v a b) where
+  pub ready : {near far : Option ℕ} → near ≡ top a → far ≡ top b → height a < 255 → height b < 255 → (p < length ns) × (ht ns near < 255) × (ht ns far < 255)
+  ready {near} {far} e f x y =
+      let l = slice_get_within ns p w.at w.lies in
+      let g : ht ns near ≡ height a = ap (ht ns) e ∙ ht-top ns a w.held_a in
+      let h : ht ns far ≡ height b = ap (ht ns) f ∙ ht-top ns b w.held_b in
       (l, omega arith, omega arith)
 
-  pub glue : (ms : List (Node K)) (s : Bool) (near far : ℕ) → near ≡ top a → far ≡ top b → Joined ns ms p s near far → Glued ns ms s p k v a b
-  glue ms s near far e f j =
-      let l = nth_in ns p w.at w.lies in
-      let g : ht ns near ≡ height a = ap (ht ns) e ∙ ht-top ns a small w.held_a in
-      let h : ht ns far ≡ height b = ap (ht ns) f ∙ ht-top ns b small w.held_b in
+  pub glue : (ms : List (Node K)) (s : Bool) {near far : Option ℕ} → near ≡ top a → far ≡ top b → Joined ns ms p s near far → Glued ns ms s p k v a b
+  glue ms s {near} {far} e f j =
+      let l = slice_get_within ns p w.at w.lies in
+      let g : ht ns near ≡ height a = ap (ht ns) e ∙ ht-top ns a w.held_a in
+      let h : ht ns far ≡ height b = ap (ht ns) f ∙ ht-top ns b w.held_b in
       let x : Node K = rec k v (cond s (top a) (top b)) (cond s (top b) (top a)) (max (height a) (height b) + 1) in
       let i : linked w.at s near far (max (ht ns near) (ht ns far) + 1) ≡ x = rw (w.keyed, w.valued, g, h, e, f) refl in
       let m : ms ≡ set ns p x = j w.at w.lies ∙ ap (set ns p) i in

@@ -1,43 +1,37 @@
 -- Taking the root out of a tree.
-use Rattle.std.proofs.Common.{◌≡◌, ℕ, ◌+◌, ◌<◌, max, false, List, ◌++◌, length, get_or, set, sym, refl, ap, ◌∙◌, ⊎_elim, append-nil, arith, length-set}
+use Rattle.std.proofs.Common.{◌≡◌, ℕ, ◌+◌, ◌<◌, max, false, List, ◌++◌, length, get_or, set, Some, None, Option, sym, refl, ap, ◌∙◌, ⊎_elim, append-nil, arith, length-set}
 use Rattle.std.specs.List.{slice_get}
 use Rattle.std.proofs.lemmas.Bool.{cases_lt}
 use Rattle.ordered_map.specs.declared.node.Node.{Node}
 use Rattle.ordered_map.specs.Tree.{Tree, leaf, node, top, height, size, occ, entries}
-use Rattle.ordered_map.specs.Table.{rec, Holds}
+use Rattle.ordered_map.specs.Table.{rec}
 use Rattle.ordered_map.specs.Edit.{bond}
 use Rattle.ordered_map.specs.Path.{Standing, Popped, Mendable, Mended, Excised}
-use Rattle.ordered_map.proofs.Nths.{nth_in, nth_is, nth_set_same, nth_set_other}
+use Rattle.std.proofs.lemmas.Option.{slice_get_within, get_or_from_slice_get}
+use Rattle.ordered_map.proofs.Nths.{nth_set_same, nth_set_other}
 use Rattle.ordered_map.proofs.Bonds.{one_self, one_zero, holds_kept, holds_off}
 
-module _ {K : Type 0} (ns : List (Node K)) (p : ℕ) (k : K) (v : ℕ) (l r : Tree K) (s : Standing ns p (node p k v l r)) where
+module _ {K : Type 0} {ns : List (Node K)} {p : ℕ} {k : K} {v : ℕ} {l r : Tree K} (s : Standing ns p (node p k v l r)) where
   pub here_in : p < length ns
-  here_in = nth_in ns p (rec k v (top l) (top r) (max (height l) (height r) + 1)) s.held.0
+  here_in = slice_get_within ns p (rec k v (top l) (top r) (max (height l) (height r) + 1)) s.held.0
 
-  module _ (x : Node K) (g : x ≡ get_or ns p x) where
-    x_is : x ≡ rec k v (top l) (top r) (max (height l) (height r) + 1)
-    x_is = g ∙ nth_is ns p (rec k v (top l) (top r) (max (height l) (height r) + 1)) x s.held.0
+  module _ {x : Node K} (g : x ≡ get_or ns p x) where
+    pub x_is : x ≡ rec k v (top l) (top r) (max (height l) (height r) + 1)
+    x_is = g ∙ get_or_from_slice_get ns p (rec k v (top l) (top r) (max (height l) (height r) + 1)) x s.held.0
 
-    left_is : x.left ≡ top l
+    pub left_is : x.left ≡ top l
     left_is = ap (λ (n : Node K). n.left) x_is
 
-    right_is : x.right ≡ top r
+    pub right_is : x.right ≡ top r
     right_is = ap (λ (n : Node K). n.right) x_is
 
-    no_right : (u : Tree K) → Holds ns u → x.right ≡ top u → x.right ≡ 65535 → u ≡ leaf
-    no_right leaf h e z = refl
-    no_right (node q i w a b) h e z =
-        let n = nth_in ns q (rec i w (top a) (top b) (max (height a) (height b) + 1)) h.0 in
-        let m = s.small in
-        absurd (omega arith)
+    no_right : (u : Tree K) → x.right ≡ top u → x.right ≡ None → u ≡ leaf
+    no_right leaf e z = refl
+    no_right (node q i w a b) e z = cc
 
-    some_right : (u : Tree K) → x.right ≡ top u → (x.right ≡ 65535 → ⊥) → 0 < height u
-    some_right leaf e ne = absurd (ne e)
-    some_right (node q i w a b) e ne = omega arith
-
-    pub excised_leaf : x.right ≡ 65535 → Excised ns ns x.left p p k v l r
+    pub excised_leaf : x.right ≡ None → Excised ns ns x.left p p k v l r
     excised_leaf z =
-        let e : r ≡ leaf = no_right r s.held.2 right_is z in
+        let e : r ≡ leaf = no_right r right_is z in
         let h : height r ≡ 0 = ap height e in
         let n : size r ≡ 0 = ap size e in
         record {
@@ -54,30 +48,27 @@ module _ {K : Type 0} (ns : List (Node K)) (p : ℕ) (k : K) (v : ℕ) (l r : Tr
           long = refl;
         }
 
-    module _ (ne : x.right ≡ 65535 → ⊥) where
-      pub right_stands : Standing ns x.right r
+    module _ {right : ℕ} (some : x.right ≡ Some right) where
+      pub right_stands : Standing ns right r
       right_stands =
           let lo = s.low in
-          record { rooted = right_is; held = s.held.2; apart = λ q. let a = s.apart q in omega arith; level = s.level.3; low = omega arith; some = some_right r right_is ne; small = s.small }
+          record { rooted = sym some ∙ right_is; held = s.held.2; apart = λ q. let a = s.apart q in omega arith; level = s.level.3; low = omega arith }
 
-      module _ (ms : List (Node K)) (least rest : ℕ) (o : Popped ns ms least rest r) where
-        off : occ p r ≡ 0
+      module _ {ms : List (Node K)} {least : ℕ} {rest : Option ℕ} (o : Popped ns ms least rest r) where
+        pub off : occ p r ≡ 0
         off = let a = s.apart p in let b = one_self p in omega arith
 
         pub least_in : least < length ms
-        least_in = nth_in ms least o.at o.lies
+        least_in = slice_get_within ms least o.at o.lies
 
         pub place_in : p < length ms
         place_in = let a = o.long in let b = here_in in omega arith
 
-        module _ (y : Node K) (f : y ≡ get_or ms least y) where
-          new : Node K
-          new = record { key = y.key; value = y.value; left = x.left; right = x.right; height = x.height }
+        module _ {y : Node K} (f : y ≡ get_or ms least y) where
+          pub y_is : y ≡ o.at
+          y_is = f ∙ get_or_from_slice_get ms least o.at y o.lies
 
-          y_is : y ≡ o.at
-          y_is = f ∙ nth_is ms least o.at y o.lies
-
-          pub mend_it : Mendable (set ms p (record { key = y.key; value = y.value; left = x.left; right = x.right; height = x.height })) p false rest o.key o.value o.rest l
+          abbrev pub mend_it : Mendable (set ms p (record { key = y.key; value = y.value; left = x.left; right = x.right; height = x.height })) p false rest
           mend_it =
               let n : Node K = record { key = y.key; value = y.value; left = x.left; right = x.right; height = x.height } in
               let keep : (q : ℕ) → (q ≡ p → ⊥) → slice_get (set ms p n) q ≡ slice_get ms q = λ q d. nth_set_other ms p q n d in
@@ -92,6 +83,10 @@ module _ {K : Type 0} (ns : List (Node K)) (p : ℕ) (k : K) (v : ℕ) (l r : Tr
               let lo = o.lower in
               let sl = s.low in
               record {
+                key = o.key;
+                value = o.value;
+                a = o.rest;
+                b = l;
                 loose = record {
                   at = n;
                   lies = nth_set_same ms p n place_in;
@@ -109,11 +104,10 @@ module _ {K : Type 0} (ns : List (Node K)) (p : ℕ) (k : K) (v : ℕ) (l r : Tr
                 near_low = omega arith;
                 far_low = omega arith;
                 low = omega arith;
-                small = let a = length-set ms p n in let d = o.long in let e = s.small in omega arith;
               }
 
-          pub excised_node : (os : List (Node K)) (t : ℕ) → Mended (set ms p (record { key = y.key; value = y.value; left = x.left; right = x.right; height = x.height })) os t (bond false p o.key o.value o.rest l) o.rest l → Excised ns os t least p k v l r
-          excised_node os t d =
+          pub excised_node : {os : List (Node K)} {t : ℕ} → Mended (set ms p (record { key = y.key; value = y.value; left = x.left; right = x.right; height = x.height })) os t (bond false p o.key o.value o.rest l) o.rest l → Excised ns os (Some t) least p k v l r
+          excised_node d =
               let n : Node K = record { key = y.key; value = y.value; left = x.left; right = x.right; height = x.height } in
               let m = d.made in
               let up = o.upper in

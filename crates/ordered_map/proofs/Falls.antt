@@ -1,16 +1,17 @@
 -- The way down.
-use Rattle.std.proofs.Common.{◌≡◌, ℕ, ◌+◌, ◌<◌, ◌≤◌, max, Bool, true, false, cond, List, [], ◌∷◌, ◌++◌, length, get_or, set, is_some, Some, None, Ordering, Less, Equal, Greater, sym, refl, ap, ◌∙◌, subst, append_assoc, append-nil, arith}
+use Rattle.std.proofs.Common.{◌≡◌, ℕ, ◌+◌, ◌<◌, ◌≤◌, max, Bool, true, false, cond, List, [], ◌∷◌, ◌++◌, map, length, get_or, is_some, Some, None, Option, Ordering, Less, Equal, Greater, sym, refl, ap, ◌∙◌, subst, append_assoc, append-nil, arith}
+use Rattle.std.proofs.lemmas.List.{length-map}
 use Rattle.std.specs.List.{slice_get, AllByRecursion}
 use Rattle.std.specs.Ordering.{MatchOrdering}
 use Rattle.std.proofs.ByRecursion.{All-append}
 use Rattle.ordered_map.specs.declared.node.Node.{Node}
-use Rattle.ordered_map.specs.declared.node.Step.{Step}
+use Rattle.ordered_map.specs.declared.path.Step.{Step}
 use Rattle.ordered_map.specs.Order.{Order}
 use Rattle.ordered_map.specs.Tree.{Tree, leaf, node, top, height, entries, Balanced, Rises, value_at, find}
 use Rattle.ordered_map.specs.Table.{rec, Holds, Kept, tree_of}
 use Rattle.ordered_map.specs.Edit.{bond}
-use Rattle.ordered_map.specs.Path.{Frame, fill, plug, step_at, OnPath, Framed, Fit, tall, before, after, Falling, Landed, Found}
-use Rattle.ordered_map.proofs.Nths.{nth_in, nth_is, nth_set_same, nth_set_other}
+use Rattle.ordered_map.specs.Path.{Frame, fill, plug, step_of, Framed, Fit, tall, before, after, Falling, Landed, Found}
+use Rattle.std.proofs.lemmas.Option.{slice_get_within, get_or_from_slice_get}
 use Rattle.ordered_map.proofs.Bonds.{height-bond, level_parts}
 use Rattle.ordered_map.proofs.Lookups.{rep_tree, rep_low}
 use Rattle.ordered_map.proofs.Sorted.{value_left, value_right, rises_left, rises_right, rises_mid, under_less, over_mid, over_equal, value_under, find_is}
@@ -21,7 +22,7 @@ bond_held : {K : Type 0} (ns : List (Node K)) (s : Bool) (p : ℕ) (k : K) (v : 
 bond_held ns true p k v a b h = (max (height a) (height b) + 1, h.0, h.1, h.2)
 bond_held ns false p k v a b h = (max (height b) (height a) + 1, h.0, h.2, h.1)
 
-cond_back : (s : Bool) (a b : ℕ) → cond s (cond s b a) (cond s a b) ≡ b
+cond_back : (s : Bool) (a b : Option ℕ) → cond s (cond s b a) (cond s a b) ≡ b
 cond_back true a b = refl
 cond_back false a b = refl
 
@@ -56,9 +57,13 @@ entries-plug [] t = sym (append-nil (entries t))
 entries-plug (f ∷ fs) t =
     entries-plug fs (fill f t) ∙ (ap (λ es. before fs ++ (es ++ after fs)) (entries-bond f.left f.place f.key f.value t f.other) ∙ simp append_assoc)
 
-pub onpath_set : {K : Type 0} (path : List Step) (fs : List (Frame K)) (i : ℕ) (x : Step) → length fs ≤ i → OnPath path fs → OnPath (set path i x) fs
-onpath_set path [] i x h o = tt
-onpath_set path (f ∷ fs) i x h o = (nth_set_other path i (length fs) x (λ e. absurd (omega arith)) ∙ o.0, onpath_set path fs i x (omega arith) o.1)
+-- a path has at most as many steps as the whole is high
+pub path_low : {K : Type 0} (path : List Step) (fs : List (Frame K)) (t u : Tree K) → path ≡ map step_of fs → plug fs t ≡ u → length path + height t ≤ height u
+path_low path fs t u on pl =
+    let a : length path ≡ length fs = ap length on ∙ length-map fs step_of in
+    let b = tall_deep (height t) fs in
+    let d : height u ≡ tall (height t) fs = ap height (sym pl) ∙ height-plug fs t in
+    omega arith
 
 -- ---- what the way goes over
 
@@ -66,33 +71,34 @@ pub record Ground {K : Type 0} (c : K → K → Ordering) (ns : List (Node K)) (
   pub held : Holds ns t
   pub low : height t ≤ 14
   pub sorted : Rises c (entries t)
-  pub small : length ns ≤ 1024
 
-pub ground : {K : Type 0} (c : K → K → Ordering) (ns : List (Node K)) (root free : ℕ) → Kept c ns root free → Ground c ns (tree_of ns root)
-ground c ns root free s =
+pub ground : {K : Type 0} {c : K → K → Ordering} {ns : List (Node K)} {root free : Option ℕ} → Kept c ns root free → Ground c ns (tree_of ns root)
+ground {c = c} {ns = ns} {root = root} {free = free} s =
     let e = rep_tree c ns root free s.0 s.1 s.2 in
-    subst (Ground c ns) (sym e) (record { held = s.2.held; low = rep_low c ns root free s.0 s.1 s.2; sorted = s.2.sorted; small = s.2.small })
+    subst (Ground c ns) (sym e) (record { held = s.2.held; low = rep_low c ns root free s.0 s.1 s.2; sorted = s.2.sorted })
 
-pub falls_none : {K : Type 0} (c : K → K → Ordering) (t : Tree K) (k : K) (path : List Step) (root : ℕ) → root ≡ top t → Falling c t k path root 0
-falls_none c t k path root e = record { frames = []; here = t; at_is = e; whole = refl; deep = refl; on = tt; over = tt; under = tt }
+pub falls_none : {K : Type 0} {c : K → K → Ordering} {t : Tree K} {k : K} {root : Option ℕ} → root ≡ top t → Falling c t k [] root
+falls_none {t = t} e = record { frames = []; here = t; at_is = e; whole = refl; on = refl; over = tt; under = tt }
 
-module _ {K : Type 0} (c : K → K → Ordering) (w : Order c) (ns : List (Node K)) (t : Tree K) (k : K) (path : List Step) (at depth : ℕ) (g : Ground c ns t) where
+abbrev pub step_at : ℕ → Bool → Step
+step_at p s = record { place = p; left = s }
+
+module _ {K : Type 0} (c : K → K → Ordering) (w : Order c) (ns : List (Node K)) (t : Tree K) (k : K) (path : List Step) (at : Option ℕ) (p : ℕ) (i : at ≡ Some p) (g : Ground c ns t) where
   abbrev pub Fell : Node K → Ordering → Type 0
-  Fell x o = MatchOrdering o (Falling c t k (set path depth (step_at at true)) x.left (depth + 1)) ((is_some (value_at c (entries t) k) ≡ true) × Found c t k path depth at) (Falling c t k (set path depth (step_at at false)) x.right (depth + 1))
+  Fell x o = MatchOrdering o (Falling c t k (step_at p true ∷ path) x.left) ((is_some (value_at c (entries t) k) ≡ true) × Found c t k path p) (Falling c t k (step_at p false ∷ path) x.right)
 
-  module _ (fs : List (Frame K)) (dp : depth ≡ length fs) (on : OnPath path fs) (ov : AllByRecursion (λ e. c k e.0 ≡ Greater) (before fs)) (un : AllByRecursion (λ e. c k e.0 ≡ Less) (after fs)) (long : 14 ≤ length path) where
-    fell_node : (p : ℕ) (j : K) (v : ℕ) (l r : Tree K) (h : ℕ) (o : Ordering) → at ≡ p → depth < 14 → plug fs (node p j v l r) ≡ t → Rises c (entries l ++ (j, v) ∷ entries r) → c k j ≡ o → Fell (rec j v (top l) (top r) h) o
-    fell_node p j v l r h Less e dl pl ri o = record {
+  module _ (fs : List (Frame K)) (on : path ≡ map step_of fs) (ov : AllByRecursion (λ e. c k e.0 ≡ Greater) (before fs)) (un : AllByRecursion (λ e. c k e.0 ≡ Less) (after fs)) where
+    fell_node : (j : K) (v : ℕ) (l r : Tree K) (h : ℕ) (o : Ordering) → plug fs (node p j v l r) ≡ t → Rises c (entries l ++ (j, v) ∷ entries r) → c k j ≡ o → Fell (rec j v (top l) (top r) h) o
+    fell_node j v l r h Less pl ri o = record {
       frames = record { place = p; left = true; key = j; value = v; other = r } ∷ fs;
       here = l;
       at_is = refl;
       whole = pl;
-      deep = omega arith;
-      on = (ap (slice_get (set path depth (step_at at true))) (sym dp) ∙ (nth_set_same path depth (step_at at true) (omega arith) ∙ ap (λ q. Some (step_at q true)) e), onpath_set path fs depth (step_at at true) (omega arith) on);
+      on = cc;
       over = All-append (λ e. c k e.0 ≡ Greater) (before fs) [] ov tt;
       under = (o, All-append (λ e. c k e.0 ≡ Less) (entries r) (after fs) (under_less c w k j (entries r) o (rises_right c (entries l) ((j, v) ∷ entries r) ri).0) un);
     }
-    fell_node p j v l r h Equal e dl pl ri o =
+    fell_node j v l r h Equal pl ri o =
         let a : value_at c (entries t) k ≡ value_at c (before fs ++ (entries (node p j v l r) ++ after fs)) k = ap (λ es. value_at c es k) (ap entries (sym pl) ∙ entries-plug fs (node p j v l r)) in
         let b = value_right c k (before fs) (entries (node p j v l r) ++ after fs) ov in
         let d = value_left c k (entries (node p j v l r)) (after fs) un in
@@ -105,59 +111,56 @@ module _ {K : Type 0} (c : K → K → Ordering) (w : Order c) (ns : List (Node 
             value = v;
             left = l;
             right = r;
-            whole = ap (λ q. plug fs (node q k v l r)) e ∙ (ap (λ i. plug fs (node p i v l r)) kj ∙ pl);
-            deep = dp;
+            whole = ap (λ i. plug fs (node p i v l r)) kj ∙ pl;
             on = on;
             over = ov;
             same = ap (c k) kj ∙ o;
             over_left = over_equal c w k j (entries l) o (rises_mid c (entries l) (j, v) (entries r) ri);
           },
         )
-    fell_node p j v l r h Greater e dl pl ri o = record {
+    fell_node j v l r h Greater pl ri o = record {
       frames = record { place = p; left = false; key = j; value = v; other = l } ∷ fs;
       here = r;
       at_is = refl;
       whole = pl;
-      deep = omega arith;
-      on = (ap (slice_get (set path depth (step_at at false))) (sym dp) ∙ (nth_set_same path depth (step_at at false) (omega arith) ∙ ap (λ q. Some (step_at q false)) e), onpath_set path fs depth (step_at at false) (omega arith) on);
+      on = cc;
       over = All-append (λ e. c k e.0 ≡ Greater) (before fs) (entries l ++ (j, v) ∷ []) ov (All-append (λ e. c k e.0 ≡ Greater) (entries l) ((j, v) ∷ []) (over_mid c w k j (entries l) o (rises_mid c (entries l) (j, v) (entries r) ri)) (o, tt));
       under = un;
     }
 
-    fall_at : (here : Tree K) → at ≡ top here → plug fs here ≡ t → (at ≡ 65535 → ⊥) → (at < length ns) × (depth < 14) × ((x : Node K) (o : Ordering) → x ≡ get_or ns at x → o ≡ c k x.key → Fell x o)
-    fall_at leaf e pl ne = absurd (ne e)
-    fall_at (node p j v l m) e pl ne =
+    fall_at : (here : Tree K) → at ≡ top here → plug fs here ≡ t → (p < length ns) × (length path < 14) × ((x : Node K) (o : Ordering) → x ≡ get_or ns p x → o ≡ c k x.key → Fell x o)
+    fall_at leaf e pl = cc
+    fall_at (node p' j v l m) e pl0 =
+        let d : p' ≡ p = cc in
+        let pl : plug fs (node p j v l m) ≡ t = ap (λ a. plug fs (node a j v l m)) (sym d) ∙ pl0 in
         let hp = holds_plug ns fs (node p j v l m) (subst (Holds ns) (sym pl) g.held) in
         let x : Node K = rec j v (top l) (top m) (max (height l) (height m) + 1) in
-        let q : slice_get ns at ≡ Some x = ap (slice_get ns) e ∙ hp.1.0 in
-        let td = tall_deep (height (node p j v l m)) fs in
-        let th : height t ≡ tall (height (node p j v l m)) fs = ap height (sym pl) ∙ height-plug fs (node p j v l m) in
+        let q : slice_get ns p ≡ Some x = hp.1.0 in
+        let pd = path_low path fs (node p j v l m) t on pl in
         let lo = g.low in
-        let dl : depth < 14 = omega arith in
+        let dl : length path < 14 = omega arith in
         let ri : Rises c (before fs ++ (entries (node p j v l m) ++ after fs)) = subst (Rises c) (ap entries (sym pl) ∙ entries-plug fs (node p j v l m)) g.sorted in
         let ri2 = rises_left c (entries (node p j v l m)) (after fs) (rises_right c (before fs) (entries (node p j v l m) ++ after fs) ri) in (
-          nth_in ns at x q,
+          slice_get_within ns p x q,
           dl,
           λ y o r u.
-              let z : y ≡ x = r ∙ nth_is ns at x y q in
+              let z : y ≡ x = r ∙ get_or_from_slice_get ns p x y q in
               let uo : c k j ≡ o = sym (u ∙ ap (λ (n : Node K). c k n.key) z) in
-              subst (λ a. Fell a o) (sym z) (fell_node p j v l m (max (height l) (height m) + 1) o e dl pl ri2 uo),
+              subst (λ a. Fell a o) (sym z) (fell_node j v l m (max (height l) (height m) + 1) o pl ri2 uo),
         )
 
-  pub fall : Falling c t k path at depth → 14 ≤ length path → (at ≡ 65535 → ⊥) → (at < length ns) × (depth < 14) × ((x : Node K) (o : Ordering) → x ≡ get_or ns at x → o ≡ c k x.key → Fell x o)
-  fall f long = fall_at f.frames f.deep f.on f.over f.under long f.here f.at_is f.whole
+pub fall : {K : Type 0} {c : K → K → Ordering} (w : Order c) {ns : List (Node K)} {t : Tree K} {k : K} {path : List Step} {at : Option ℕ} {p : ℕ} (i : at ≡ Some p) (g : Ground c ns t) → Falling c t k path at → (p < length ns) × (length path < 14) × ((x : Node K) (o : Ordering) → x ≡ get_or ns p x → o ≡ c k x.key → Fell c w ns t k path at p i g x o)
+fall w i g f = fall_at _ w _ _ _ _ _ _ i g f.frames f.on f.over f.under f.here f.at_is f.whole
 
-  land_at : (fs : List (Frame K)) (here : Tree K) → at ≡ top here → plug fs here ≡ t → depth ≡ length fs → OnPath path fs → AllByRecursion (λ e. c k e.0 ≡ Greater) (before fs) → AllByRecursion (λ e. c k e.0 ≡ Less) (after fs) → at ≡ 65535 → Landed c t k path depth
-  land_at fs leaf e pl d on ov un z = record { frames = fs; whole = pl; deep = d; on = on; over = ov; under = un }
-  land_at fs (node p j v l r) e pl d on ov un z =
-      let hp = holds_plug ns fs (node p j v l r) (subst (Holds ns) (sym pl) g.held) in
-      let i = nth_in ns p (rec j v (top l) (top r) (max (height l) (height r) + 1)) hp.1.0 in
-      let s = g.small in
-      absurd (omega arith)
+-- the way ends where there is no record
+module _ {K : Type 0} {c : K → K → Ordering} {t : Tree K} {k : K} {path : List Step} {at : Option ℕ} where
+  land_at : (fs : List (Frame K)) (here : Tree K) → at ≡ top here → plug fs here ≡ t → path ≡ map step_of fs → AllByRecursion (λ e. c k e.0 ≡ Greater) (before fs) → AllByRecursion (λ e. c k e.0 ≡ Less) (after fs) → at ≡ None → Landed c t k path
+  land_at fs leaf e pl on ov un z = record { frames = fs; whole = pl; on = on; over = ov; under = un }
+  land_at fs (node p j v l r) e pl on ov un z = cc
 
-  pub land : Falling c t k path at depth → at ≡ 65535 → Landed c t k path depth
-  land f = land_at f.frames f.here f.at_is f.whole f.deep f.on f.over f.under
+  pub land : Falling c t k path at → at ≡ None → Landed c t k path
+  land f = land_at f.frames f.here f.at_is f.whole f.on f.over f.under
 
-pub landed_absent : {K : Type 0} (c : K → K → Ordering) (t : Tree K) (k : K) (path : List Step) (depth : ℕ) → Landed c t k path depth → value_at c (entries t) k ≡ None
-landed_absent c t k path depth l =
+pub landed_absent : {K : Type 0} {c : K → K → Ordering} {t : Tree K} {k : K} {path : List Step} → Landed c t k path → value_at c (entries t) k ≡ None
+landed_absent {c = c} {k = k} l =
     ap (λ es. value_at c es k) (ap entries (sym l.whole) ∙ entries-plug l.frames leaf) ∙ (value_right c k (before l.frames) (after l.frames) l.over ∙ value_under c k (after l.frames) l.under)

@@ -1,77 +1,63 @@
 -- The least of a tree.
-use Rattle.std.proofs.Common.{◌≡◌, ℕ, ◌+◌, ◌<◌, ◌≤◌, max, true, List, [], ◌∷◌, ◌++◌, length, get_or, set, Some, sym, refl, ap, ◌∙◌, subst, append-nil, arith}
+use Rattle.std.proofs.Common.{◌≡◌, ℕ, ◌+◌, ◌<◌, max, true, List, [], ◌∷◌, ◌++◌, map, length, get_or, Some, None, Option, sym, refl, ap, ◌∙◌, subst, append-nil, arith}
 use Rattle.std.specs.List.{slice_get}
 use Rattle.ordered_map.specs.declared.node.Node.{Node}
-use Rattle.ordered_map.specs.declared.node.Step.{Step}
+use Rattle.ordered_map.specs.declared.path.Step.{Step}
 use Rattle.ordered_map.specs.Tree.{Tree, leaf, node, top, height, size, occ, one, entries, Balanced}
 use Rattle.ordered_map.specs.Table.{rec, Holds}
-use Rattle.ordered_map.specs.Path.{Frame, plug, step_at, OnPath, occ_frames, tall, Fit, before, after, Standing, Leftward, Lowest, Popped, Rising, Risen}
-use Rattle.ordered_map.proofs.Nths.{nth_in, nth_is, nth_set_same}
+use Rattle.ordered_map.specs.Path.{Frame, plug, step_of, occ_frames, tall, Fit, before, after, Standing, Leftward, Lowest, Popped, Rising, Risen}
+use Rattle.std.proofs.lemmas.Option.{slice_get_within, get_or_from_slice_get}
 use Rattle.ordered_map.proofs.Bonds.{one_self}
 use Rattle.ordered_map.proofs.Rises.{occ-plug}
-use Rattle.ordered_map.proofs.Falls.{holds_plug, height-plug, tall_deep, level_plug, entries-plug, onpath_set}
+use Rattle.ordered_map.proofs.Falls.{holds_plug, height-plug, path_low, level_plug, entries-plug, step_at}
 use Rattle.ordered_map.proofs.Enters.{size-plug}
 
-module _ {K : Type 0} (ns : List (Node K)) (root : ℕ) (t : Tree K) (s : Standing ns root t) where
-  pub left_none : (path : List Step) → Leftward t path root 0
-  left_none path = record { frames = []; here = t; at_is = s.rooted; whole = refl; deep = refl; on = tt; first = refl; some = s.some }
-
-  module _ (path : List Step) (at depth : ℕ) (long : 14 ≤ length path) where
+module _ {K : Type 0} {ns : List (Node K)} {root : ℕ} {t : Tree K} (s : Standing ns root t) where
+  module _ (path : List Step) (at : ℕ) where
+    -- what the record there tells: the least, or a way further down
     abbrev Turn : Type 0
-    Turn = (at < length ns) × ((x : Node K) → x ≡ get_or ns at x → (x.left ≡ 65535 → Lowest t path depth at) × ((x.left ≡ 65535 → ⊥) → (depth < 14) × Leftward t (set path depth (step_at at true)) x.left (depth + 1)))
+    Turn = (at < length ns) × ((x : Node K) → x ≡ get_or ns at x → (x.left ≡ None → Lowest t path at) × ((q : ℕ) → x.left ≡ Some q → (length path < 14) × Leftward t (step_at at true ∷ path) q))
 
-    module _ (fs : List (Frame K)) (d : depth ≡ length fs) (on : OnPath path fs) (b : before fs ≡ []) (p : ℕ) (e : at ≡ p) (j : K) (v : ℕ) (x : Node K) where
-      no_left : (l r : Tree K) (h : ℕ) → x ≡ rec j v (top l) (top r) h → Holds ns l → plug fs (node p j v l r) ≡ t → x.left ≡ 65535 → Lowest t path depth at
-      no_left leaf r h xe hl pl z = record { frames = fs; key = j; value = v; right = r; whole = ap (λ q. plug fs (node q j v leaf r)) e ∙ pl; deep = d; on = on; first = b }
-      no_left (node q i u a c) r h xe hl pl z =
-          let n = nth_in ns q (rec i u (top a) (top c) (max (height a) (height c) + 1)) hl.0 in
-          let y : x.left ≡ q = ap (λ (n : Node K). n.left) xe in
-          let sm = s.small in
-          absurd (omega arith)
+    module _ (fs : List (Frame K)) (on : path ≡ map step_of fs) (b : before fs ≡ []) (j : K) (v : ℕ) (x : Node K) where
+      no_left : (l r : Tree K) → x.left ≡ top l → plug fs (node at j v l r) ≡ t → x.left ≡ None → Lowest t path at
+      no_left leaf r e pl z = record { frames = fs; key = j; value = v; right = r; whole = pl; on = on; first = b }
+      no_left (node q i u a c) r e pl z = cc
 
-      go_left : (l r : Tree K) (h : ℕ) → x ≡ rec j v (top l) (top r) h → plug fs (node p j v l r) ≡ t → depth < 14 → (x.left ≡ 65535 → ⊥) → (depth < 14) × Leftward t (set path depth (step_at at true)) x.left (depth + 1)
-      go_left leaf r h xe pl dl ne = absurd (ne (ap (λ (n : Node K). n.left) xe))
-      go_left (node q i u a c) r h xe pl dl ne = (
-        dl,
-        record {
-          frames = record { place = p; left = true; key = j; value = v; other = r } ∷ fs;
-          here = node q i u a c;
-          at_is = ap (λ (n : Node K). n.left) xe;
-          whole = pl;
-          deep = omega arith;
-          on = (ap (slice_get (set path depth (step_at at true))) (sym d) ∙ (nth_set_same path depth (step_at at true) (omega arith) ∙ ap (λ q. Some (step_at q true)) e), onpath_set path fs depth (step_at at true) (omega arith) on);
-          first = append-nil (before fs) ∙ b;
-          some = omega arith;
-        },
-      )
+      go_left : (l r : Tree K) → x.left ≡ top l → plug fs (node at j v l r) ≡ t → (q : ℕ) → x.left ≡ Some q → Leftward t (step_at at true ∷ path) q
+      go_left l r e pl q z = record {
+        frames = record { place = at; left = true; key = j; value = v; other = r } ∷ fs;
+        here = l;
+        at_is = sym z ∙ e;
+        whole = pl;
+        on = cc;
+        first = append-nil (before fs) ∙ b;
+      }
 
-    left_at : (fs : List (Frame K)) (here : Tree K) → at ≡ top here → plug fs here ≡ t → depth ≡ length fs → OnPath path fs → before fs ≡ [] → 0 < height here → Turn
-    left_at fs leaf e pl d on b z = absurd (omega (arith, z))
-    left_at fs (node p j v l r) e pl d on b z =
-        let hp = holds_plug ns fs (node p j v l r) (subst (Holds ns) (sym pl) s.held) in
+    left_at : (fs : List (Frame K)) (here : Tree K) → Some at ≡ top here → plug fs here ≡ t → path ≡ map step_of fs → before fs ≡ [] → Turn
+    left_at fs leaf e pl on b = cc
+    left_at fs (node p j v l r) e pl0 on b =
+        let d : p ≡ at = cc in
+        let pl : plug fs (node at j v l r) ≡ t = ap (λ a. plug fs (node a j v l r)) (sym d) ∙ pl0 in
+        let hp = holds_plug ns fs (node at j v l r) (subst (Holds ns) (sym pl) s.held) in
         let y : Node K = rec j v (top l) (top r) (max (height l) (height r) + 1) in
-        let q : slice_get ns at ≡ Some y = ap (slice_get ns) e ∙ hp.1.0 in
-        let td = tall_deep (height (node p j v l r)) fs in
-        let th : height t ≡ tall (height (node p j v l r)) fs = ap height (sym pl) ∙ height-plug fs (node p j v l r) in
+        let pd = path_low path fs (node at j v l r) t on pl in
         let lo = s.low in
-        let dl : depth < 14 = omega arith in (
-          nth_in ns at y q,
+        let dl : length path < 14 = omega arith in (
+          slice_get_within ns at y hp.1.0,
           λ x g.
-              let xe : x ≡ y = g ∙ nth_is ns at y x q in (
-                no_left fs d on b p e j v x l r (max (height l) (height r) + 1) xe hp.1.1 pl,
-                go_left fs d on b p e j v x l r (max (height l) (height r) + 1) xe pl dl,
-              ),
+              let xl : x.left ≡ top l = ap (λ (n : Node K). n.left) (g ∙ get_or_from_slice_get ns at y x hp.1.0) in
+              (no_left fs on b j v x l r xl pl, λ q z. (dl, go_left fs on b j v x l r xl pl q z)),
         )
 
-    pub left_turn : Leftward t path at depth → (at < length ns) × ((x : Node K) → x ≡ get_or ns at x → (x.left ≡ 65535 → Lowest t path depth at) × ((x.left ≡ 65535 → ⊥) → (depth < 14) × Leftward t (set path depth (step_at at true)) x.left (depth + 1)))
-    left_turn w = left_at w.frames w.here w.at_is w.whole w.deep w.on w.first w.some
+  pub left_turn : {path : List Step} {at : ℕ} → Leftward t path at → Turn path at
+  left_turn {path} {at} w = left_at path at w.frames w.here w.at_is w.whole w.on w.first
 
-  module _ (path : List Step) (depth place : ℕ) (l : Lowest t path depth place) where
-    lies : slice_get ns place ≡ Some (rec l.key l.value 65535 (top l.right) (max 0 (height l.right) + 1))
+  module _ {path : List Step} {place : ℕ} (l : Lowest t path place) where
+    lies : slice_get ns place ≡ Some (rec l.key l.value None (top l.right) (max 0 (height l.right) + 1))
     lies = (holds_plug ns l.frames (node place l.key l.value leaf l.right) (subst (Holds ns) (sym l.whole) s.held)).1.0
 
     pub least_in : place < length ns
-    least_in = nth_in ns place (rec l.key l.value 65535 (top l.right) (max 0 (height l.right) + 1)) lies
+    least_in = slice_get_within ns place (rec l.key l.value None (top l.right) (max 0 (height l.right) + 1)) lies
 
     occ_t : (q : ℕ) → occ q t ≡ one q place + (occ q l.right + occ_frames q l.frames)
     occ_t q =
@@ -84,17 +70,16 @@ module _ {K : Type 0} (ns : List (Node K)) (root : ℕ) (t : Tree K) (s : Standi
         let e : height (node place l.key l.value leaf l.right) ≡ height l.right + 1 = omega arith in
         ap height (sym l.whole) ∙ (height-plug l.frames (node place l.key l.value leaf l.right) ∙ ap (λ h. tall h l.frames) e)
 
-    pub least_rising : (x : Node K) → x ≡ get_or ns place x → Rising ns path depth x.right l.frames l.right (height l.right + 1)
-    least_rising x g =
+    pub least_rising : {x : Node K} → x ≡ get_or ns place x → Rising ns path x.right l.frames l.right (height l.right + 1)
+    least_rising {x} g =
         let hp = holds_plug ns l.frames (node place l.key l.value leaf l.right) (subst (Holds ns) (sym l.whole) s.held) in
         let lp = level_plug l.frames (node place l.key l.value leaf l.right) (subst Balanced (sym l.whole) s.level) in
         let e : height (node place l.key l.value leaf l.right) ≡ height l.right + 1 = omega arith in
         let lo = s.low in
         let tt0 = th in
         record {
-          deep = l.deep;
           on = l.on;
-          at_is = ap (λ (n : Node K). n.right) (g ∙ nth_is ns place (rec l.key l.value 65535 (top l.right) (max 0 (height l.right) + 1)) x lies);
+          at_is = ap (λ (n : Node K). n.right) (g ∙ get_or_from_slice_get ns place (rec l.key l.value None (top l.right) (max 0 (height l.right) + 1)) x lies);
           framed = hp.0;
           held = hp.1.2;
           apart = λ q. let a = occ_t q in let b = s.apart q in omega arith;
@@ -103,11 +88,10 @@ module _ {K : Type 0} (ns : List (Node K)) (root : ℕ) (t : Tree K) (s : Standi
           upper = omega arith;
           lower = omega arith;
           low = omega arith;
-          small = s.small;
         }
 
-    pub popped : (ms : List (Node K)) (r : ℕ) → Risen ns ms r (plug l.frames l.right) (tall (height l.right + 1) l.frames) → Popped ns ms place r t
-    popped ms r n =
+    pub popped : {ms : List (Node K)} {r : Option ℕ} → Risen ns ms r (plug l.frames l.right) (tall (height l.right + 1) l.frames) → Popped ns ms place r t
+    popped n =
         let o0 = one_self place in
         let op : (q : ℕ) → occ q (plug l.frames l.right) ≡ occ q l.right + occ_frames q l.frames = λ q. occ-plug q l.frames l.right in
         let tt0 = th in
@@ -117,7 +101,7 @@ module _ {K : Type 0} (ns : List (Node K)) (root : ℕ) (t : Tree K) (s : Standi
           key = l.key;
           value = l.value;
           rest = n.tree;
-          at = rec l.key l.value 65535 (top l.right) (max 0 (height l.right) + 1);
+          at = rec l.key l.value None (top l.right) (max 0 (height l.right) + 1);
           lies = n.kept place (let a = occ_t place in let b = s.apart place in let d = op place in omega arith) ∙ lies;
           keyed = refl;
           valued = refl;

@@ -6,6 +6,7 @@ pub mod Bonds
 pub mod Rotations
 pub mod Leans
 pub mod Mends
+pub mod Paths
 pub mod Rises
 pub mod Falls
 pub mod Leasts

@@ -1,5 +1,5 @@
 -- A pair put among sorted pairs, and a key cut out of them.
-use Rattle.std.proofs.Common.{◌≡◌, ℕ, ◌+◌, Bool, true, false, List, [], ◌∷◌, length, is_some, Some, None, Option, Ordering, Less, Equal, Greater, sym, refl, ap, ◌∙◌, subst, arith}
+use Rattle.std.proofs.Common.{◌≡◌, ℕ, List, [], ◌∷◌, Some, None, Option, Ordering, Less, Equal, Greater, sym, refl, ap, ◌∙◌, subst}
 use Rattle.std.specs.Ordering.{ordering_reverse, match_ordering as by_order}
 use Rattle.ordered_map.specs.Order.{Order}
 use Rattle.ordered_map.specs.Tree.{Rises, value_at}
@@ -7,9 +7,9 @@ use Rattle.ordered_map.specs.Enter.{put, cut}
 use Rattle.ordered_map.proofs.Sorted.{Under, value_under, under_less}
 
 self_by : (o : Ordering) → o ≡ ordering_reverse o → o ≡ Equal
-self_by Less e = absurd (let z : ◌≡◌ {A = ℕ} 0 1 = cc in omega arith)
+self_by Less e = cc
 self_by Equal e = refl
-self_by Greater e = absurd (let z : ◌≡◌ {A = ℕ} 0 1 = cc in omega arith)
+self_by Greater e = cc
 
 module _ {K : Type 0} (c : K → K → Ordering) (w : Order c) where
   self : (k : K) → c k k ≡ Equal
@@ -23,18 +23,9 @@ module _ {K : Type 0} (c : K → K → Ordering) (w : Order c) where
 
   -- ---- put
 
-  long_step : (o : Ordering) (p e : K × ℕ) (es ps : List (K × ℕ)) (x : Option ℕ) → by_order o x (Some e.1) x ≡ None → (x ≡ None → length ps ≡ length es + 1) → length (by_order o (p ∷ e ∷ es) (e ∷ es) (e ∷ ps)) ≡ length (e ∷ es) + 1
-  long_step Less p e es ps x h f = omega arith
-  long_step Equal p e es ps x h f = absurd (let z : ◌≡◌ {A = ℕ} 0 1 = cc in omega arith)
-  long_step Greater p e es ps x h f = let i = f h in omega arith
-
-  pub length-put : (es : List (K × ℕ)) (k : K) (v : ℕ) → value_at c es k ≡ None → length (put c es k v) ≡ length es + 1
-  length-put [] k v h = omega arith
-  length-put (e ∷ es) k v h = long_step (c k e.0) (k, v) e es (put c es k v) (value_at c es k) h (length-put es k v)
-
   gets_step : (o : Ordering) (k : K) (v : ℕ) (e : K × ℕ) (es ps : List (K × ℕ)) → c k e.0 ≡ o → by_order o (value_at c es k) (Some e.1) (value_at c es k) ≡ None → (value_at c es k ≡ None → value_at c ps k ≡ Some v) → value_at c (by_order o ((k, v) ∷ e ∷ es) (e ∷ es) (e ∷ ps)) k ≡ Some v
   gets_step Less k v e es ps q h f = rw (self k) refl
-  gets_step Equal k v e es ps q h f = absurd (let z : ◌≡◌ {A = ℕ} 0 1 = cc in omega arith)
+  gets_step Equal k v e es ps q h f = cc
   gets_step Greater k v e es ps q h f = rw q (f h)
 
   pub put_gets : (es : List (K × ℕ)) (k : K) (v : ℕ) → value_at c es k ≡ None → value_at c (put c es k v) k ≡ Some v
@@ -54,7 +45,7 @@ module _ {K : Type 0} (c : K → K → Ordering) (w : Order c) where
 
   absent_step : (o : Ordering) (e : K × ℕ) (es ps : List (K × ℕ)) (x : Option ℕ) → by_order o x (Some e.1) x ≡ None → (x ≡ None → ps ≡ es) → by_order o (e ∷ es) es (e ∷ ps) ≡ e ∷ es
   absent_step Less e es ps x h f = refl
-  absent_step Equal e es ps x h f = absurd (let z : ◌≡◌ {A = ℕ} 0 1 = cc in omega arith)
+  absent_step Equal e es ps x h f = cc
   absent_step Greater e es ps x h f = ap (λ ys. e ∷ ys) (f h)
 
   pub cut_absent : (es : List (K × ℕ)) (k : K) → value_at c es k ≡ None → cut c es k ≡ es
@@ -81,14 +72,3 @@ module _ {K : Type 0} (c : K → K → Ordering) (w : Order c) where
   pub cut_gone : (es : List (K × ℕ)) (k : K) → Rises c es → value_at c (cut c es k) k ≡ None
   cut_gone [] k r = refl
   cut_gone (e ∷ es) k r = gone_step (c k e.0) k e es (cut c es k) refl r.0 (cut_gone es k r.1)
-
-  short_step : (o : Ordering) (k : K) (e : K × ℕ) (es ps : List (K × ℕ)) → c k e.0 ≡ o → Under c e.0 es → is_some (by_order o (value_at c es k) (Some e.1) (value_at c es k)) ≡ true → (is_some (value_at c es k) ≡ true → length ps + 1 ≡ length es) → length (by_order o (e ∷ es) es (e ∷ ps)) + 1 ≡ length (e ∷ es)
-  short_step Less k e es ps q u h f =
-      let n = value_under c k es (under_less c w k e.0 es q u) in
-      absurd (let z : ◌≡◌ {A = Bool} false true = ap is_some (sym n) ∙ h in let y : ◌≡◌ {A = ℕ} 0 1 = cc in omega arith)
-  short_step Equal k e es ps q u h f = omega arith
-  short_step Greater k e es ps q u h f = let i = f h in omega arith
-
-  pub length_cut : (es : List (K × ℕ)) (k : K) → Rises c es → is_some (value_at c es k) ≡ true → length (cut c es k) + 1 ≡ length es
-  length_cut [] k r h = absurd (let y : ◌≡◌ {A = ℕ} 0 1 = cc in omega arith)
-  length_cut (e ∷ es) k r h = short_step (c k e.0) k e es (cut c es k) refl r.0 h (length_cut es k r.1)

@@ -1,26 +1,25 @@
 -- The climb along a path.
-use Rattle.std.proofs.Common.{◌≡◌, ℕ, ◌+◌, ◌-◌, ◌<◌, ◌≤◌, max, Bool, true, false, List, [], ◌∷◌, ◌++◌, length, get_or, Some, sym, refl, ap, ◌∙◌, subst, ⊎_elim, arith}
+use Rattle.std.proofs.Common.{◌≡◌, ℕ, ◌+◌, ◌<◌, ◌≤◌, max, Bool, true, false, List, [], ◌∷◌, ◌++◌, map, length, Some, Option, sym, refl, ap, ◌∙◌, subst, ⊎_elim, arith}
 use Rattle.std.proofs.lemmas.Bool.{cases_lt}
 use Rattle.std.specs.List.{slice_get}
 use Rattle.ordered_map.specs.declared.node.Node.{Node}
-use Rattle.ordered_map.specs.declared.node.Step.{Step}
+use Rattle.ordered_map.specs.declared.path.Step.{Step}
 use Rattle.ordered_map.specs.Tree.{Tree, height, occ, one, entries}
 use Rattle.ordered_map.specs.Edit.{bond, Like}
 use Rattle.ordered_map.specs.Path.{Mendable, Mended, Frame, fill, plug, step_of, Framed, occ_frames, tall, Rising, Climbing, Risen}
-use Rattle.ordered_map.proofs.Nths.{nth_in, nth_is}
 use Rattle.ordered_map.proofs.Bonds.{one_self, occ-bond, size-bond, height-bond, holds_kept}
 
 -- ---- like trees
 
-pub like_trans : {K : Type 0} (a b c : Tree K) → Like a b → Like b c → Like a c
-like_trans a b c f g = record { pairs = g.pairs ∙ f.pairs; count = g.count ∙ f.count; places = λ q. g.places q ∙ f.places q }
+pub like_trans : {K : Type 0} {a b c : Tree K} → Like a b → Like b c → Like a c
+like_trans f g = record { pairs = g.pairs ∙ f.pairs; count = g.count ∙ f.count; places = λ q. g.places q ∙ f.places q }
 
 pairs_bond : {K : Type 0} (s : Bool) (p : ℕ) (k : K) (v : ℕ) (a a' b : Tree K) → entries a' ≡ entries a → entries (bond s p k v a' b) ≡ entries (bond s p k v a b)
 pairs_bond true p k v a a' b e = ap (λ es. es ++ (k, v) ∷ entries b) e
 pairs_bond false p k v a a' b e = ap (λ es. entries b ++ (k, v) ∷ es) e
 
-pub fill_like : {K : Type 0} (f : Frame K) (t u : Tree K) → Like t u → Like (fill f t) (fill f u)
-fill_like f t u l = record {
+pub fill_like : {K : Type 0} (f : Frame K) {t u : Tree K} → Like t u → Like (fill f t) (fill f u)
+fill_like f {t} {u} l = record {
   pairs = pairs_bond f.left f.place f.key f.value t u f.other l.pairs;
   count =
       let a = size-bond f.left f.place f.key f.value t f.other in
@@ -34,9 +33,9 @@ fill_like f t u l = record {
       omega arith;
 }
 
-pub plug_like : {K : Type 0} (fs : List (Frame K)) (t u : Tree K) → Like t u → Like (plug fs t) (plug fs u)
-plug_like [] t u l = l
-plug_like (f ∷ fs) t u l = plug_like fs (fill f t) (fill f u) (fill_like f t u l)
+pub plug_like : {K : Type 0} (fs : List (Frame K)) {t u : Tree K} → Like t u → Like (plug fs t) (plug fs u)
+plug_like [] l = l
+plug_like (f ∷ fs) l = plug_like fs (fill_like f l)
 
 pub occ-plug : {K : Type 0} (q : ℕ) (fs : List (Frame K)) (t : Tree K) → occ q (plug fs t) ≡ occ q t + occ_frames q fs
 occ-plug q [] t = omega arith
@@ -68,8 +67,8 @@ tall_up h (f ∷ fs) = let x = tall_up (max h (height f.other) + 1) fs in omega 
 
 -- ---- one turn
 
-module _ {K : Type 0} (ns : List (Node K)) (path : List Step) (at : ℕ) (f : Frame K) (fs : List (Frame K)) (t : Tree K) (h depth : ℕ) (r : Rising ns path depth at (f ∷ fs) t h) where
-  pub mendable : Mendable ns f.place f.left at f.key f.value t f.other
+module _ {K : Type 0} {ns : List (Node K)} {path : List Step} {at : Option ℕ} {f : Frame K} {fs : List (Frame K)} {t : Tree K} {h : ℕ} (r : Rising ns path at (f ∷ fs) t h) where
+  abbrev pub mendable : Mendable ns f.place f.left at
   mendable =
       let g = r.framed.0 in
       let up = r.upper in
@@ -79,6 +78,10 @@ module _ {K : Type 0} (ns : List (Node K)) (path : List Step) (at : ℕ) (f : Fr
       let tl = tall_up (max h (height f.other) + 1) fs in
       let low = r.low in
       record {
+        key = f.key;
+        value = f.value;
+        a = t;
+        b = f.other;
         loose = record { at = g.at; lies = g.lies; keyed = g.keyed; valued = g.valued; held_a = r.held; held_b = g.held; apart = λ q. let u = r.apart q in omega arith };
         near_is = r.at_is;
         far_is = g.far;
@@ -87,11 +90,10 @@ module _ {K : Type 0} (ns : List (Node K)) (path : List Step) (at : ℕ) (f : Fr
         near_low = omega arith;
         far_low = omega arith;
         low = omega arith;
-        small = r.small;
       }
 
-  pub risen_one : (ms : List (Node K)) (o : ℕ) (d : Mended ns ms o (fill f t) t f.other) → Rising ms path (length fs) o fs d.made.tree (max h (height f.other) + 1)
-  risen_one ms o d =
+  pub risen_one : {ms : List (Node K)} {o : ℕ} (d : Mended ns ms o (fill f t) t f.other) → Rising ms (map step_of fs) (Some o) fs d.made.tree (max h (height f.other) + 1)
+  risen_one {ms} d =
       let m = d.made in
       let up = r.upper in
       let lo = r.lower in
@@ -102,8 +104,7 @@ module _ {K : Type 0} (ns : List (Node K)) (path : List Step) (at : ℕ) (f : Fr
       let mu = m.upper in
       let ob : (q : ℕ) → occ q (fill f t) ≡ one q f.place + (occ q t + occ q f.other) = λ q. occ-bond q f.left f.place f.key f.value t f.other in
       record {
-        deep = refl;
-        on = r.on.1;
+        on = refl;
         at_is = m.at;
         framed = framed_kept ns ms fs (λ q u. m.kept q (let x = ob q in let y = r.apart q in omega arith)) r.framed.1;
         held = m.held;
@@ -117,73 +118,79 @@ module _ {K : Type 0} (ns : List (Node K)) (path : List Step) (at : ℕ) (f : Fr
             (λ x. ⊎_elim (λ y. omega arith) (λ y. let e = d.even x y in omega arith) (cases_lt (height t + 1) (height f.other)))
             (cases_lt (height f.other + 1) (height t));
         low = r.low;
-        small = let l = m.long in let s = r.small in omega arith;
       }
 
 -- ---- the loop
 
-pub record Onward {K : Type 0} (ns ms : List (Node K)) (path : List Step) (i at : ℕ) (u : Tree K) (high : ℕ) : Type 0 where
-  pub frame : Frame K
+-- the frame at a step
+abbrev pub over : {K : Type 0} → Step → K → ℕ → Tree K → Frame K
+over step k v b = record { place = step.place; left = step.left; key = k; value = v; other = b }
+
+-- the same, with the lowest step off the path
+pub record Onward {K : Type 0} (ns ms : List (Node K)) (step : Step) (path : List Step) (at : Option ℕ) (u : Tree K) (high : ℕ) : Type 0 where
+  pub key : K
+  pub value : ℕ
+  pub other : Tree K
   pub rest : List (Frame K)
   pub tree : Tree K
   pub hole : ℕ
-  pub rising : Rising ms path i at (frame ∷ rest) tree hole
-  pub tall_is : tall hole (frame ∷ rest) ≡ high
-  pub like : Like u (plug (frame ∷ rest) tree)
+  pub path_is : path ≡ map step_of rest
+  pub rising : Rising ms (step ∷ path) at (over step key value other ∷ rest) tree hole
+  pub tall_is : tall hole (over step key value other ∷ rest) ≡ high
+  pub like : Like u (plug (over step key value other ∷ rest) tree)
   pub kept : (q : ℕ) → occ q u ≡ 0 → slice_get ms q ≡ slice_get ns q
   pub long : length ms ≡ length ns
 
-pub begin : {K : Type 0} (ns : List (Node K)) (path : List Step) (i at : ℕ) (fs : List (Frame K)) (t : Tree K) (h : ℕ) → Rising ns path i at fs t h → Climbing ns ns path i at (plug fs t) (tall h fs)
-begin ns path i at fs t h r = record { frames = fs; tree = t; hole = h; rising = r; tall_is = refl; like = record { pairs = refl; count = refl; places = λ q. refl }; kept = λ q z. refl; long = refl }
+module _ {K : Type 0} {ns ms : List (Node K)} {at : Option ℕ} {u : Tree K} {high : ℕ} where
+  onward_at : {step : Step} {path : List Step} (fs : List (Frame K)) (t : Tree K) (h : ℕ) → Rising ms (step ∷ path) at fs t h → tall h fs ≡ high → Like u (plug fs t) → ((q : ℕ) → occ q u ≡ 0 → slice_get ms q ≡ slice_get ns q) → length ms ≡ length ns → Onward ns ms step path at u high
+  onward_at [] t h r e l k g = let d = r.on in cc
+  onward_at {step} {path} (f ∷ fs) t h r e l k g =
+      let d = r.on in
+      let n : step ≡ step_of f = cc in
+      let q : f ≡ over step f.key f.value f.other = ap (λ (y : Step). over y f.key f.value f.other) (sym n) in
+      record {
+        key = f.key;
+        value = f.value;
+        other = f.other;
+        rest = fs;
+        tree = t;
+        hole = h;
+        path_is = cc;
+        rising = subst (λ (f : Frame K). Rising ms (step ∷ path) at (f ∷ fs) t h) q r;
+        tall_is = e;
+        like = subst (λ (f : Frame K). Like u (plug (f ∷ fs) t)) q l;
+        kept = k;
+        long = g;
+      }
 
-module _ {K : Type 0} (ns ms : List (Node K)) (path : List Step) (i at : ℕ) (u : Tree K) (high : ℕ) where
-  onward_at : (fs : List (Frame K)) (t : Tree K) (h : ℕ) → Rising ms path i at fs t h → tall h fs ≡ high → Like u (plug fs t) → ((q : ℕ) → occ q u ≡ 0 → slice_get ms q ≡ slice_get ns q) → length ms ≡ length ns → 0 < i → Onward ns ms path i at u high
-  onward_at [] t h r e l k g z = let d = r.deep in absurd (omega arith)
-  onward_at (f ∷ fs) t h r e l k g z = record { frame = f; rest = fs; tree = t; hole = h; rising = r; tall_is = e; like = l; kept = k; long = g }
+  pub onward : {step : Step} {path all : List Step} → all ≡ step ∷ path → Climbing ns ms all at u high → Onward ns ms step path at u high
+  onward e w = onward_at w.frames w.tree w.hole (subst (λ (p : List Step). Rising ms p at w.frames w.tree w.hole) e w.rising) w.tall_is w.like w.kept w.long
 
-  pub onward : Climbing ns ms path i at u high → 0 < i → Onward ns ms path i at u high
-  onward w = onward_at w.frames w.tree w.hole w.rising w.tall_is w.like w.kept w.long
-
-  finish_at : (fs : List (Frame K)) (t : Tree K) (h : ℕ) → Rising ms path i at fs t h → tall h fs ≡ high → Like u (plug fs t) → ((q : ℕ) → occ q u ≡ 0 → slice_get ms q ≡ slice_get ns q) → length ms ≡ length ns → i ≤ 0 → Risen ns ms at u high
+  finish_at : {path : List Step} (fs : List (Frame K)) (t : Tree K) (h : ℕ) → Rising ms path at fs t h → tall h fs ≡ high → Like u (plug fs t) → ((q : ℕ) → occ q u ≡ 0 → slice_get ms q ≡ slice_get ns q) → length ms ≡ length ns → path ≡ [] → Risen ns ms at u high
   finish_at [] t h r e l k g z = record { tree = t; at = r.at_is; held = r.held; like = l; upper = let a = r.upper in omega arith; lower = let a = r.lower in omega arith; level = r.level; kept = k; long = g }
-  finish_at (f ∷ fs) t h r e l k g z = let d = r.deep in absurd (omega arith)
+  finish_at (f ∷ fs) t h r e l k g z = let d = r.on in cc
 
-  pub finish : Climbing ns ms path i at u high → i ≤ 0 → Risen ns ms at u high
+  pub finish : {path : List Step} → Climbing ns ms path at u high → path ≡ [] → Risen ns ms at u high
   finish w = finish_at w.frames w.tree w.hole w.rising w.tall_is w.like w.kept w.long
 
-  module _ (w : Onward ns ms path i at u high) where
-    before : i - 1 ≡ length w.rest
-    before = let d = w.rising.deep in omega arith
+  module _ {step : Step} {path : List Step} (w : Onward ns ms step path at u high) where
+    abbrev pub mend_ready : Mendable ms step.place step.left at
+    mend_ready = mendable w.rising
 
-    step_lies : slice_get path (i - 1) ≡ Some (step_of w.frame)
-    step_lies = ap (slice_get path) before ∙ w.rising.on.0
-
-    pub step_in : i - 1 < length path
-    step_in = nth_in path (i - 1) (step_of w.frame) step_lies
-
-    pub step_is : (d : Step) → get_or path (i - 1) d ≡ step_of w.frame
-    step_is d = nth_is path (i - 1) (step_of w.frame) d step_lies
-
-    module _ (x : Step) (e : x ≡ step_of w.frame) where
-      pub mend_ready : Mendable ms x.place x.left at w.frame.key w.frame.value w.tree w.frame.other
-      mend_ready =
-          subst (λ (y : Step). Mendable ms y.place y.left at w.frame.key w.frame.value w.tree w.frame.other) (sym e)
-          (mendable ms path at w.frame w.rest w.tree w.hole i w.rising)
-
-      pub climbed : (os : List (Node K)) (o : ℕ) → Mended ms os o (bond x.left x.place w.frame.key w.frame.value w.tree w.frame.other) w.tree w.frame.other → Climbing ns os path (i - 1) o u high
-      climbed os o d0 =
-          let d : Mended ms os o (fill w.frame w.tree) w.tree w.frame.other = subst (λ (y : Step). Mended ms os o (bond y.left y.place w.frame.key w.frame.value w.tree w.frame.other) w.tree w.frame.other) e d0 in
-          let r = risen_one ms path at w.frame w.rest w.tree w.hole i w.rising os o d in
-          record {
-            frames = w.rest;
-            tree = d.made.tree;
-            hole = max w.hole (height w.frame.other) + 1;
-            rising = subst (λ (n : ℕ). Rising os path n o w.rest d.made.tree (max w.hole (height w.frame.other) + 1)) (sym before) r;
-            tall_is = w.tall_is;
-            like = like_trans u (plug (w.frame ∷ w.rest) w.tree) (plug w.rest d.made.tree) w.like (plug_like w.rest (fill w.frame w.tree) d.made.tree d.made.like);
-            kept = λ q z.
-                let a = w.like.places q in
-                let b = occ-plug q w.rest (fill w.frame w.tree) in
-                d.made.kept q (omega arith) ∙ w.kept q z;
-            long = d.made.long ∙ w.long;
-          }
+    pub climbed : {os : List (Node K)} {o : ℕ} → Mended ms os o (bond step.left step.place w.key w.value w.tree w.other) w.tree w.other → Climbing ns os path (Some o) u high
+    climbed {os} {o} d =
+        let f : Frame K = over step w.key w.value w.other in
+        let r = risen_one w.rising d in
+        record {
+          frames = w.rest;
+          tree = d.made.tree;
+          hole = max w.hole (height w.other) + 1;
+          rising = subst (λ (p : List Step). Rising os p (Some o) w.rest d.made.tree (max w.hole (height w.other) + 1)) (sym w.path_is) r;
+          tall_is = w.tall_is;
+          like = like_trans w.like (plug_like w.rest d.made.like);
+          kept = λ q z.
+              let a = w.like.places q in
+              let b = occ-plug q w.rest (fill f w.tree) in
+              d.made.kept q (omega arith) ∙ w.kept q z;
+          long = d.made.long ∙ w.long;
+        }

@@ -1,11 +1,11 @@
 -- The two rotations.
-use Rattle.std.proofs.Common.{◌≡◌, ℕ, ◌+◌, ◌<◌, ◌≤◌, max, Bool, true, false, cond, List, ◌∷◌, get_or, Some, sym, refl, ap, ◌∙◌, subst, append_assoc, arith}
+use Rattle.std.proofs.Common.{◌≡◌, ℕ, ◌+◌, ◌<◌, ◌≤◌, max, Bool, true, false, cond, List, ◌∷◌, get_or, Some, Option, sym, refl, ap, ◌∙◌, subst, append_assoc, arith}
 use Rattle.std.specs.List.{slice_get}
 use Rattle.ordered_map.specs.declared.node.Node.{Node}
 use Rattle.ordered_map.specs.Tree.{Tree, top, height, occ, one, entries, Balanced}
 use Rattle.ordered_map.specs.Table.{rec, Holds}
 use Rattle.ordered_map.specs.Edit.{bond, Loose, Made, Glued, Leaning, Staged, Parted}
-use Rattle.ordered_map.proofs.Nths.{nth_is}
+use Rattle.std.proofs.lemmas.Option.{get_or_from_slice_get}
 use Rattle.ordered_map.proofs.Bonds.{one_self, one_zero, holds_off, top-bond, height-bond, size-bond, occ-bond, level_bond, level_parts, open_tree}
 
 -- ---- the pairs stay in order
@@ -24,7 +24,7 @@ rekey ns ms p k v a b a' b' w e x y u = record { at = w.at; lies = e ∙ w.lies;
 
 -- ---- a single rotation: a is a bond of x and y at c
 
-module _ {K : Type 0} (s : Bool) (ns : List (Node K)) (p : ℕ) (k : K) (v : ℕ) (c : ℕ) (j : K) (w : ℕ) (x y b : Tree K) (l : Loose ns p k v (bond s c j w x y) b) (z : Loose ns c j w x y) where
+module _ {K : Type 0} (s : Bool) {ns : List (Node K)} {p : ℕ} {k : K} {v : ℕ} {c : ℕ} {j : K} {w : ℕ} {x y b : Tree K} (l : Loose ns p k v (bond s c j w x y) b) (z : Loose ns c j w x y) where
   apart : (q : ℕ) → one q p + (one q c + (occ q x + occ q y) + occ q b) ≤ 1
   apart q = let h = l.apart q in let e = occ-bond q s c j w x y in omega arith
 
@@ -34,15 +34,15 @@ module _ {K : Type 0} (s : Bool) (ns : List (Node K)) (p : ℕ) (k : K) (v : ℕ
   pub single_1 : Loose ns p k v y b
   single_1 = rekey ns ns p k v _ _ y b l refl z.held_b l.held_b (λ q. let h = apart q in omega arith)
 
-  pub single_2 : (ms : List (Node K)) → Glued ns ms s p k v y b → Loose ms c j w x (bond s p k v y b)
-  single_2 ms g =
+  pub single_2 : {ms : List (Node K)} → Glued ns ms s p k v y b → Loose ms c j w x (bond s p k v y b)
+  single_2 {ms} g =
       rekey ns ms c j w x y x (bond s p k v y b) z (g.kept c c_p)
       (holds_off ns ms x p g.kept (let h = apart p in let o = one_self p in omega arith) z.held_a)
       g.held
       (λ q. let h = apart q in let e = occ-bond q s p k v y b in omega arith)
 
-  pub single_3 : (ms os : List (Node K)) → Glued ns ms s p k v y b → Glued ms os s c j w x (bond s p k v y b) → Balanced (bond s c j w x y) → Balanced b → height (bond s c j w x y) ≡ height b + 2 → height y ≤ height x → Made ns os c (bond s p k v (bond s c j w x y) b)
-  single_3 ms os g f la lb t le =
+  pub single_3 : {ms os : List (Node K)} → Glued ns ms s p k v y b → Glued ms os s c j w x (bond s p k v y b) → Balanced (bond s c j w x y) → Balanced b → height (bond s c j w x y) ≡ height b + 2 → height y ≤ height x → Made ns os c (bond s p k v (bond s c j w x y) b)
+  single_3 g f la lb t le =
       let lp = level_parts s c j w x y la in
       let h1 = height-bond s c j w x y in
       let h2 = height-bond s p k v y b in
@@ -79,7 +79,7 @@ module _ {K : Type 0} (s : Bool) (ns : List (Node K)) (p : ℕ) (k : K) (v : ℕ
 
 -- ---- a double rotation: y is itself a bond of x1 and y1 at m
 
-module _ {K : Type 0} (s : Bool) (ns : List (Node K)) (p : ℕ) (k : K) (v : ℕ) (c : ℕ) (j : K) (w : ℕ) (m : ℕ) (i : K) (u : ℕ) (x x1 y1 b : Tree K) (l : Loose ns p k v (bond s c j w x (bond s m i u x1 y1)) b) (z : Loose ns c j w x (bond s m i u x1 y1)) (n : Loose ns m i u x1 y1) where
+module _ {K : Type 0} (s : Bool) {ns : List (Node K)} {p : ℕ} {k : K} {v : ℕ} {c : ℕ} {j : K} {w : ℕ} {m : ℕ} {i : K} {u : ℕ} {x x1 y1 b : Tree K} (l : Loose ns p k v (bond s c j w x (bond s m i u x1 y1)) b) (z : Loose ns c j w x (bond s m i u x1 y1)) (n : Loose ns m i u x1 y1) where
   apart2 : (q : ℕ) → one q p + (one q c + (occ q x + (one q m + (occ q x1 + occ q y1))) + occ q b) ≤ 1
   apart2 q = let h = l.apart q in let e = occ-bond q s c j w x (bond s m i u x1 y1) in let f = occ-bond q s m i u x1 y1 in omega arith
 
@@ -95,8 +95,8 @@ module _ {K : Type 0} (s : Bool) (ns : List (Node K)) (p : ℕ) (k : K) (v : ℕ
   pub double_1 : Loose ns c j w x x1
   double_1 = rekey ns ns c j w _ _ x x1 z refl z.held_a n.held_a (λ q. let h = apart2 q in omega arith)
 
-  pub double_2 : (ms : List (Node K)) → Glued ns ms s c j w x x1 → Loose ms p k v y1 b
-  double_2 ms g =
+  pub double_2 : {ms : List (Node K)} → Glued ns ms s c j w x x1 → Loose ms p k v y1 b
+  double_2 {ms} g =
       let h = apart2 c in
       let o = one_self c in
       rekey ns ms p k v _ _ y1 b l (g.kept p p_c)
@@ -104,8 +104,8 @@ module _ {K : Type 0} (s : Bool) (ns : List (Node K)) (p : ℕ) (k : K) (v : ℕ
       (holds_off ns ms b c g.kept (omega arith) l.held_b)
       (λ q. let h = apart2 q in omega arith)
 
-  pub double_3 : (ms os : List (Node K)) → Glued ns ms s c j w x x1 → Glued ms os s p k v y1 b → Loose os m i u (bond s c j w x x1) (bond s p k v y1 b)
-  double_3 ms os g f =
+  pub double_3 : {ms os : List (Node K)} → Glued ns ms s c j w x x1 → Glued ms os s p k v y1 b → Loose os m i u (bond s c j w x x1) (bond s p k v y1 b)
+  double_3 {ms} {os} g f =
       let h = apart2 p in
       let o = one_self p in
       let e = occ-bond p s c j w x x1 in
@@ -114,8 +114,8 @@ module _ {K : Type 0} (s : Bool) (ns : List (Node K)) (p : ℕ) (k : K) (v : ℕ
       f.held
       (λ q. let h = apart2 q in let e = occ-bond q s c j w x x1 in let d = occ-bond q s p k v y1 b in omega arith)
 
-  pub double_4 : (ms os rs : List (Node K)) → Glued ns ms s c j w x x1 → Glued ms os s p k v y1 b → Glued os rs s m i u (bond s c j w x x1) (bond s p k v y1 b) → Balanced (bond s c j w x (bond s m i u x1 y1)) → Balanced b → height (bond s c j w x (bond s m i u x1 y1)) ≡ height b + 2 → height x < height (bond s m i u x1 y1) → Made ns rs m (bond s p k v (bond s c j w x (bond s m i u x1 y1)) b)
-  double_4 ms os rs g f d la lb t le =
+  pub double_4 : {ms os rs : List (Node K)} → Glued ns ms s c j w x x1 → Glued ms os s p k v y1 b → Glued os rs s m i u (bond s c j w x x1) (bond s p k v y1 b) → Balanced (bond s c j w x (bond s m i u x1 y1)) → Balanced b → height (bond s c j w x (bond s m i u x1 y1)) ≡ height b + 2 → height x < height (bond s m i u x1 y1) → Made ns rs m (bond s p k v (bond s c j w x (bond s m i u x1 y1)) b)
+  double_4 g f d la lb t le =
       let y : Tree K = bond s m i u x1 y1 in
       let lp = level_parts s c j w x y la in
       let lq = level_parts s m i u x1 y1 lp.3 in
@@ -163,18 +163,19 @@ module _ {K : Type 0} (s : Bool) (ns : List (Node K)) (p : ℕ) (k : K) (v : ℕ
 
 -- ---- from the records read
 
-cond-swap : (s : Bool) (a b : ℕ) → cond s (cond s a b) (cond s b a) ≡ a
+cond-swap : (s : Bool) (a b : Option ℕ) → cond s (cond s a b) (cond s b a) ≡ a
 cond-swap true a b = refl
 cond-swap false a b = refl
 
 -- a tree that lies in the table, taken apart where its record was read
-pub parts : {K : Type 0} (ns : List (Node K)) (s : Bool) (m first second : ℕ) (y : Tree K) → m ≡ top y → 0 < height y → Holds ns y → ((q : ℕ) → occ q y ≤ 1) → (r : Node K) → r ≡ get_or ns m r → first ≡ cond s r.left r.right → second ≡ cond s r.right r.left → Parted ns s m first second y
-parts {K} ns s m first second y e z h ap1 r g fe se =
+pub parts : {K : Type 0} {ns : List (Node K)} (s : Bool) {m : ℕ} {first second : Option ℕ} {y : Tree K} → Some m ≡ top y → 0 < height y → Holds ns y → ((q : ℕ) → occ q y ≤ 1) → {r : Node K} → r ≡ get_or ns m r → first ≡ cond s r.left r.right → second ≡ cond s r.right r.left → Parted ns s m first second y
+parts {K} {ns} s {m} {first} {second} {y} e z h ap1 {r} g fe se =
     let o = open_tree ns s y z h in
     let x : Node K = rec o.key o.value (cond s (top o.outer) (top o.inner)) (cond s (top o.inner) (top o.outer)) (max (height o.outer) (height o.inner) + 1) in
-    let lm : slice_get ns m ≡ Some x = ap (slice_get ns) e ∙ o.lies in
-    let rx : r ≡ x = g ∙ nth_is ns m x r lm in
-    let yi : y ≡ bond s m o.key o.value o.outer o.inner = subst (λ t. y ≡ bond s t o.key o.value o.outer o.inner) (sym e) o.is in
+    let mp : m ≡ o.place = let a = o.at in cc in
+    let lm : slice_get ns m ≡ Some x = ap (slice_get ns) mp ∙ o.lies in
+    let rx : r ≡ x = g ∙ get_or_from_slice_get ns m x r lm in
+    let yi : y ≡ bond s m o.key o.value o.outer o.inner = subst (λ t. y ≡ bond s t o.key o.value o.outer o.inner) (sym mp) o.is in
     record {
       i = o.key;
       u = o.value;
@@ -186,17 +187,17 @@ parts {K} ns s m first second y e z h ap1 r g fe se =
       second_is = se ∙ (ap (λ (n : Node K). cond s n.right n.left) rx ∙ cond-swap s (top o.inner) (top o.outer));
     }
 
-pub stage : {K : Type 0} (ns : List (Node K)) (p : ℕ) (s : Bool) (c other outer inner : ℕ) (k : K) (v : ℕ) (a b : Tree K) → Leaning ns p s c other k v a b → (r : Node K) → r ≡ get_or ns c r → outer ≡ cond s r.left r.right → inner ≡ cond s r.right r.left → Staged ns p s c other outer inner k v a b
-stage {K} ns p s c other outer inner k v a b l r g fe se =
+pub stage : {K : Type 0} {ns : List (Node K)} {p : ℕ} {s : Bool} {c : ℕ} {other outer inner : Option ℕ} (l : Leaning ns p s c other) → {r : Node K} → r ≡ get_or ns c r → outer ≡ cond s r.left r.right → inner ≡ cond s r.right r.left → Staged ns p s c other outer inner l.key l.value l.a l.b
+stage {K = K} {ns = ns} {p = p} {s = s} {c = c} l g fe se =
     let t = l.tilt in
-    let o = parts ns s c outer inner a l.heavy_is (omega arith) l.loose.held_a (λ q. let h = l.loose.apart q in omega arith) r g fe se in
+    let o = parts s l.heavy_is (omega arith) l.loose.held_a (λ q. let h = l.loose.apart q in omega arith) g fe se in
     record {
       j = o.i;
       w = o.u;
       x = o.x1;
       y = o.y1;
       is = o.is;
-      loose = subst (λ (t : Tree K). Loose ns p k v t b) o.is l.loose;
+      loose = subst (λ (t : Tree K). Loose ns p l.key l.value t l.b) o.is l.loose;
       below = o.below;
       outer_is = o.first_is;
       inner_is = o.second_is;
@@ -204,6 +205,5 @@ stage {K} ns p s c other outer inner k v a b l r g fe se =
       level_a = subst Balanced o.is l.level_a;
       level_b = l.level_b;
       tilt = ap height (sym o.is) ∙ l.tilt;
-      low = let h = l.low in let d : height a ≡ height (bond s c o.i o.u o.x1 o.y1) = ap height o.is in omega arith;
-      small = l.small;
+      low = let h = l.low in let d : height l.a ≡ height (bond s c o.i o.u o.x1 o.y1) = ap height o.is in omega arith;
     }

@@ -10,14 +10,15 @@ abbrev pub height_in : {K : Type 0} → Option (Node K) → ℕ
 height_in None = 0
 height_in (Some n) = n.height
 
-abbrev pub ht : {K : Type 0} → List (Node K) → ℕ → ℕ
-ht ns q = height_in (slice_get ns q)
+abbrev pub ht : {K : Type 0} → List (Node K) → Option ℕ → ℕ
+ht ns None = 0
+ht ns (Some q) = height_in (slice_get ns q)
 
 -- a record with other children
-abbrev pub linked : {K : Type 0} → Node K → Bool → ℕ → ℕ → ℕ → Node K
+abbrev pub linked : {K : Type 0} → Node K → Bool → Option ℕ → Option ℕ → ℕ → Node K
 linked n s a b h = rec n.key n.value (cond s a b) (cond s b a) h
 
-abbrev pub Joined : {K : Type 0} → List (Node K) → List (Node K) → ℕ → Bool → ℕ → ℕ → Type 0
+abbrev pub Joined : {K : Type 0} → List (Node K) → List (Node K) → ℕ → Bool → Option ℕ → Option ℕ → Type 0
 Joined {K} ns ms p s a b = (n : Node K) → slice_get ns p ≡ Some n → ms ≡ slice_set ns p (linked n s a b (max (ht ns a) (ht ns b) + 1))
 
 -- a node with the tree a on the side s and the tree b on the other
@@ -44,7 +45,7 @@ pub record Like {K : Type 0} (u t : Tree K) : Type 0 where
 -- a table with the tree t at r, which is like u, from a table ns that held the places of u
 pub record Made {K : Type 0} (ns ms : List (Node K)) (r : ℕ) (u : Tree K) : Type 0 where
   pub tree : Tree K
-  pub at : r ≡ top tree
+  pub at : Some r ≡ top tree
   pub held : Holds ms tree
   pub like : Like u tree
   pub level : Balanced tree
@@ -61,29 +62,34 @@ pub record Glued {K : Type 0} (ns ms : List (Node K)) (s : Bool) (p : ℕ) (k : 
 
 -- a tree taken apart by a side
 pub record Opened {K : Type 0} (ns : List (Node K)) (s : Bool) (a : Tree K) : Type 0 where
+  pub place : ℕ
   pub key : K
   pub value : ℕ
   pub outer : Tree K
   pub inner : Tree K
-  pub is : a ≡ bond s (top a) key value outer inner
-  pub within : top a < length ns
-  pub lies : slice_get ns (top a) ≡ Some (rec key value (cond s (top outer) (top inner)) (cond s (top inner) (top outer)) (max (height outer) (height inner) + 1))
+  pub at : top a ≡ Some place
+  pub is : a ≡ bond s place key value outer inner
+  pub within : place < length ns
+  pub lies : slice_get ns place ≡ Some (rec key value (cond s (top outer) (top inner)) (cond s (top inner) (top outer)) (max (height outer) (height inner) + 1))
   pub held_outer : Holds ns outer
   pub held_inner : Holds ns inner
 
 -- p with the tree a on the side s, two higher than the tree b on the other
-pub record Leaning {K : Type 0} (ns : List (Node K)) (p : ℕ) (s : Bool) (heavy other : ℕ) (k : K) (v : ℕ) (a b : Tree K) : Type 0 where
-  pub loose : Loose ns p k v a b
-  pub heavy_is : heavy ≡ top a
+pub record Leaning {K : Type 0} (ns : List (Node K)) (p : ℕ) (s : Bool) (heavy : ℕ) (other : Option ℕ) : Type 0 where
+  pub key : K
+  pub value : ℕ
+  pub a : Tree K
+  pub b : Tree K
+  pub loose : Loose ns p key value a b
+  pub heavy_is : Some heavy ≡ top a
   pub other_is : other ≡ top b
   pub level_a : Balanced a
   pub level_b : Balanced b
   pub tilt : height a ≡ height b + 2
   pub low : height a < 100
-  pub small : length ns ≤ 1024
 
 -- the same, with the tree a taken apart at c
-pub record Staged {K : Type 0} (ns : List (Node K)) (p : ℕ) (s : Bool) (c other outer inner : ℕ) (k : K) (v : ℕ) (a b : Tree K) : Type 0 where
+pub record Staged {K : Type 0} (ns : List (Node K)) (p : ℕ) (s : Bool) (c : ℕ) (other outer inner : Option ℕ) (k : K) (v : ℕ) (a b : Tree K) : Type 0 where
   pub j : K
   pub w : ℕ
   pub x : Tree K
@@ -98,10 +104,9 @@ pub record Staged {K : Type 0} (ns : List (Node K)) (p : ℕ) (s : Bool) (c othe
   pub level_b : Balanced b
   pub tilt : height (bond s c j w x y) ≡ height b + 2
   pub low : height (bond s c j w x y) < 100
-  pub small : length ns ≤ 1024
 
 -- the same, with the tree y taken apart at m
-pub record Parted {K : Type 0} (ns : List (Node K)) (s : Bool) (m first second : ℕ) (y : Tree K) : Type 0 where
+pub record Parted {K : Type 0} (ns : List (Node K)) (s : Bool) (m : ℕ) (first second : Option ℕ) (y : Tree K) : Type 0 where
   pub i : K
   pub u : ℕ
   pub x1 : Tree K

@@ -6,3 +6,4 @@ pub mod Path
 pub mod Enter
 pub mod Map
 pub mod Labels
+pub mod Unique

@@ -1,17 +1,22 @@
 -- The way from a place up to the root.
-use Rattle.std.specs.Prelude.{◌≡◌, ℕ, ◌+◌, ◌<◌, ◌≤◌, max, Bool, true, cond, List, [], ◌∷◌, ◌++◌, length, is_some, Some, None, Ok, Err, Result}
+use Rattle.std.specs.Prelude.{◌≡◌, ℕ, ◌+◌, ◌<◌, ◌≤◌, max, Bool, true, cond, List, [], ◌∷◌, ◌++◌, map, length, reverse, is_some, Some, None, Option, Ok, Err, Result}
 use Rattle.std.specs.declared.cmp.Ordering.TheVariants.{Less, Equal, Greater}
 use Rattle.std.specs.declared.cmp.Ordering.{Ordering}
 use Rattle.std.specs.List.{slice_get, AllByRecursion}
+use Rattle.arrayvec.specs.ArrayVec.{ArrayVec}
 use Rattle.ordered_map.specs.declared.node.Node.{Node}
-use Rattle.ordered_map.specs.declared.node.Step.{Step}
+use Rattle.ordered_map.specs.declared.path.Step.{Step}
 use Rattle.ordered_map.specs.Tree.{Tree, leaf, node, top, height, size, occ, one, entries, Balanced, value_at}
 use Rattle.ordered_map.specs.Table.{Holds}
 use Rattle.ordered_map.specs.Edit.{bond, Loose, Like, Made}
 
 -- p, whose child on the side s was replaced by the tree a at `near`, while b stands on the other
-pub record Mendable {K : Type 0} (ns : List (Node K)) (p : ℕ) (s : Bool) (near : ℕ) (k : K) (v : ℕ) (a b : Tree K) : Type 0 where
-  pub loose : Loose ns p k v a b
+pub record Mendable {K : Type 0} (ns : List (Node K)) (p : ℕ) (s : Bool) (near : Option ℕ) : Type 0 where
+  pub key : K
+  pub value : ℕ
+  pub a : Tree K
+  pub b : Tree K
+  pub loose : Loose ns p key value a b
   pub near_is : near ≡ top a
   pub far_is : cond s loose.at.right loose.at.left ≡ top b
   pub level_a : Balanced a
@@ -19,7 +24,6 @@ pub record Mendable {K : Type 0} (ns : List (Node K)) (p : ℕ) (s : Bool) (near
   pub near_low : height a ≤ height b + 2
   pub far_low : height b ≤ height a + 2
   pub low : height a + height b < 90
-  pub small : length ns ≤ 1024
 
 pub record Mended {K : Type 0} (ns ms : List (Node K)) (r : ℕ) (u a b : Tree K) : Type 0 where
   pub made : Made ns ms r u
@@ -36,6 +40,10 @@ pub record Frame (K : Type 0) : Type 0 where
 abbrev pub fill : {K : Type 0} → Frame K → Tree K → Tree K
 fill f t = bond f.left f.place f.key f.value t f.other
 
+-- a path's steps, the lowest first
+abbrev pub upward : ArrayVec Step → List Step
+upward path = reverse path.items
+
 -- the frames above a tree, the lowest first
 abbrev pub plug : {K : Type 0} → List (Frame K) → Tree K → Tree K
 plug [] t = t
@@ -43,11 +51,6 @@ plug (f ∷ fs) t = plug fs (fill f t)
 
 abbrev pub step_of : {K : Type 0} → Frame K → Step
 step_of f = record { place = f.place; left = f.left }
-
--- the path has the frames, the lowest last
-abbrev pub OnPath : {K : Type 0} → List Step → List (Frame K) → Type 0
-OnPath path [] = Unit {0}
-OnPath path (f ∷ fs) = (slice_get path (length fs) ≡ Some (step_of f)) × OnPath path fs
 
 pub record Framing {K : Type 0} (ns : List (Node K)) (f : Frame K) : Type 0 where
   pub at : Node K
@@ -76,9 +79,8 @@ tall h [] = h
 tall h (f ∷ fs) = tall (max h (height f.other) + 1) fs
 
 -- the tree t at `at`, to be put under the frames in the place of one of height h
-pub record Rising {K : Type 0} (ns : List (Node K)) (path : List Step) (depth at : ℕ) (fs : List (Frame K)) (t : Tree K) (h : ℕ) : Type 0 where
-  pub deep : depth ≡ length fs
-  pub on : OnPath path fs
+pub record Rising {K : Type 0} (ns : List (Node K)) (path : List Step) (at : Option ℕ) (fs : List (Frame K)) (t : Tree K) (h : ℕ) : Type 0 where
+  pub on : path ≡ map step_of fs
   pub at_is : at ≡ top t
   pub framed : Framed ns fs
   pub held : Holds ns t
@@ -88,20 +90,19 @@ pub record Rising {K : Type 0} (ns : List (Node K)) (path : List Step) (depth at
   pub upper : height t ≤ h + 1
   pub lower : h ≤ height t + 1
   pub low : tall h fs ≤ 14
-  pub small : length ns ≤ 1024
 
-pub record Climbing {K : Type 0} (ns ms : List (Node K)) (path : List Step) (i at : ℕ) (u : Tree K) (high : ℕ) : Type 0 where
+pub record Climbing {K : Type 0} (ns ms : List (Node K)) (path : List Step) (at : Option ℕ) (u : Tree K) (high : ℕ) : Type 0 where
   -- high is the height that the whole had
   pub frames : List (Frame K)
   pub tree : Tree K
   pub hole : ℕ
-  pub rising : Rising ms path i at frames tree hole
+  pub rising : Rising ms path at frames tree hole
   pub tall_is : tall hole frames ≡ high
   pub like : Like u (plug frames tree)
   pub kept : (q : ℕ) → occ q u ≡ 0 → slice_get ms q ≡ slice_get ns q
   pub long : length ms ≡ length ns
 
-pub record Risen {K : Type 0} (ns ms : List (Node K)) (r : ℕ) (u : Tree K) (high : ℕ) : Type 0 where
+pub record Risen {K : Type 0} (ns ms : List (Node K)) (r : Option ℕ) (u : Tree K) (high : ℕ) : Type 0 where
   pub tree : Tree K
   pub at : r ≡ top tree
   pub held : Holds ms tree
@@ -128,62 +129,52 @@ after [] = []
 after (f ∷ fs) = trail f ++ after fs
 
 -- a way down to `here` in t, between the keys below k and those above
-pub record Falling {K : Type 0} (c : K → K → Ordering) (t : Tree K) (k : K) (path : List Step) (at depth : ℕ) : Type 0 where
+pub record Falling {K : Type 0} (c : K → K → Ordering) (t : Tree K) (k : K) (path : List Step) (at : Option ℕ) : Type 0 where
   pub frames : List (Frame K)
   pub here : Tree K
   pub at_is : at ≡ top here
   pub whole : plug frames here ≡ t
-  pub deep : depth ≡ length frames
-  pub on : OnPath path frames
+  pub on : path ≡ map step_of frames
   pub over : AllByRecursion (λ e. c k e.0 ≡ Greater) (before frames)
   pub under : AllByRecursion (λ e. c k e.0 ≡ Less) (after frames)
 
 -- such a way to where k would stand
-pub record Landed {K : Type 0} (c : K → K → Ordering) (t : Tree K) (k : K) (path : List Step) (depth : ℕ) : Type 0 where
+pub record Landed {K : Type 0} (c : K → K → Ordering) (t : Tree K) (k : K) (path : List Step) : Type 0 where
   pub frames : List (Frame K)
   pub whole : plug frames leaf ≡ t
-  pub deep : depth ≡ length frames
-  pub on : OnPath path frames
+  pub on : path ≡ map step_of frames
   pub over : AllByRecursion (λ e. c k e.0 ≡ Greater) (before frames)
   pub under : AllByRecursion (λ e. c k e.0 ≡ Less) (after frames)
 
-abbrev pub step_at : ℕ → Bool → Step
-step_at p s = record { place = p; left = s }
-
 -- a tree that stands alone in the table
 pub record Standing {K : Type 0} (ns : List (Node K)) (root : ℕ) (t : Tree K) : Type 0 where
-  pub rooted : root ≡ top t
+  pub rooted : Some root ≡ top t
   pub held : Holds ns t
   pub apart : (q : ℕ) → occ q t ≤ 1
   pub level : Balanced t
   pub low : height t ≤ 14
-  pub some : 0 < height t
-  pub small : length ns ≤ 1024
 
 -- a way down to the left
-pub record Leftward {K : Type 0} (t : Tree K) (path : List Step) (at depth : ℕ) : Type 0 where
+pub record Leftward {K : Type 0} (t : Tree K) (path : List Step) (at : ℕ) : Type 0 where
   pub frames : List (Frame K)
   pub here : Tree K
-  pub at_is : at ≡ top here
+  pub at_is : Some at ≡ top here
   pub whole : plug frames here ≡ t
-  pub deep : depth ≡ length frames
-  pub on : OnPath path frames
+  pub on : path ≡ map step_of frames
   pub first : before frames ≡ []
-  pub some : 0 < height here
 
 -- the way down to the least
-pub record Lowest {K : Type 0} (t : Tree K) (path : List Step) (depth place : ℕ) : Type 0 where
+pub record Lowest {K : Type 0} (t : Tree K) (path : List Step) (place : ℕ) : Type 0 where
   pub frames : List (Frame K)
   pub key : K
   pub value : ℕ
   pub right : Tree K
   pub whole : plug frames (node place key value leaf right) ≡ t
-  pub deep : depth ≡ length frames
-  pub on : OnPath path frames
+  pub on : path ≡ map step_of frames
   pub first : before frames ≡ []
 
 -- the least of t taken out
-pub record Popped {K : Type 0} (ns ms : List (Node K)) (place root : ℕ) (t : Tree K) : Type 0 where
+pub record Popped {K : Type 0} (ns ms : List (Node K)) (place : ℕ) (root : Option ℕ) (t : Tree K) : Type 0 where
   pub key : K
   pub value : ℕ
   pub rest : Tree K
@@ -203,7 +194,7 @@ pub record Popped {K : Type 0} (ns ms : List (Node K)) (place root : ℕ) (t : T
   pub long : length ms ≡ length ns
 
 -- the root of a tree taken out
-pub record Excised {K : Type 0} (ns ms : List (Node K)) (root freed place : ℕ) (k : K) (v : ℕ) (l r : Tree K) : Type 0 where
+pub record Excised {K : Type 0} (ns ms : List (Node K)) (root : Option ℕ) (freed place : ℕ) (k : K) (v : ℕ) (l r : Tree K) : Type 0 where
   pub tree : Tree K
   pub rooted : root ≡ top tree
   pub held : Holds ms tree
@@ -217,19 +208,18 @@ pub record Excised {K : Type 0} (ns ms : List (Node K)) (root freed place : ℕ)
   pub long : length ms ≡ length ns
 
 -- a way to where k stands
-pub record Found {K : Type 0} (c : K → K → Ordering) (t : Tree K) (k : K) (path : List Step) (depth place : ℕ) : Type 0 where
+pub record Found {K : Type 0} (c : K → K → Ordering) (t : Tree K) (k : K) (path : List Step) (place : ℕ) : Type 0 where
   pub frames : List (Frame K)
   pub value : ℕ
   pub left : Tree K
   pub right : Tree K
   pub whole : plug frames (node place k value left right) ≡ t
-  pub deep : depth ≡ length frames
-  pub on : OnPath path frames
+  pub on : path ≡ map step_of frames
   pub over : AllByRecursion (λ e. c k e.0 ≡ Greater) (before frames)
   pub same : c k k ≡ Equal
   pub over_left : AllByRecursion (λ e. c k e.0 ≡ Greater) (entries left)
 
 -- where the way down ends: at k, or where k would stand
-abbrev pub Located : {K : Type 0} → (K → K → Ordering) → Tree K → K → List Step → Result (ℕ × ℕ) ℕ → Type 0
-Located c t k path (Ok x) = (is_some (value_at c (entries t) k) ≡ true) × Found c t k path x.0 x.1
-Located c t k path (Err d) = (value_at c (entries t) k ≡ None) × Landed c t k path d
+abbrev pub Located : {K : Type 0} → (K → K → Ordering) → Tree K → K → Result (ArrayVec Step × ℕ) (ArrayVec Step) → Type 0
+Located c t k (Ok x) = (is_some (value_at c (entries t) k) ≡ true) × Found c t k (upward x.0) x.1
+Located c t k (Err path) = (value_at c (entries t) k ≡ None) × Landed c t k (upward path)

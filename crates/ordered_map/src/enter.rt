@@ -1,42 +1,35 @@
 // Entering a pair.
-ghost use Rattle.ordered_map.specs.Table.{Kept};
-ghost use Rattle.ordered_map.specs.Enter.{Entered};
+// Records are indexed by `place as usize`, for the reason that stands in edit.rt.
+ghost use Rattle.ordered_map.specs.Enter.{Headed, Entered};
 
+use crate::head::Head;
 use crate::key::Key;
 use crate::locate::locate;
-use crate::node::{NIL, Node, Step};
+use crate::node::Node;
 use crate::rise::rise;
 
-// Enters a pair, and returns the new root and the new first free place; nothing where the key is there or no record is free.
-pub fn enter<K: Key>(
-    nodes: &mut [Node<K>],
-    root: u16,
-    free: u16,
-    key: K,
-    value: u16,
-) -> Option<(u16, u16)>
-    requires { Kept K.Key.cmp nodes.old root free }
-    ensures { Entered K.Key.cmp nodes.old root key value nodes.new result }
+// Table and head come apart here, since only the part of the table that serves is lent.
+// Enters a pair, and returns the new head; nothing where the key is there or no record is free.
+pub fn enter<K: Key>(nodes: &mut [Node<K>], head: Head, key: K, value: u16) -> Option<Head>
+    requires { Headed K.cmp nodes.old head }
+    ensures { Entered K.cmp nodes.old head key value nodes.new result }
 {
-    let mut path = [Step {
-        place: 0,
-        left: false,
-    }; 16];
-    let depth = match locate(nodes, root, &key, &mut path) {
-        Ok(_) => return None,
-        Err(depth) => depth,
-    };
-    if free == NIL {
+    let Err(path) = locate(nodes, head.root, &key) else {
         return None;
-    }
-    let record = nodes[free as usize];
-    nodes[free as usize] = Node {
+    };
+    let place = head.free?;
+    let record = nodes[place as usize];
+    nodes[place as usize] = Node {
         key,
         value,
-        left: NIL,
-        right: NIL,
+        left: None,
+        right: None,
         height: 1,
     };
-    let top = rise(nodes, &path, depth, free);
-    Some((top, record.left))
+    let root = rise(nodes, path, Some(place));
+    Some(Head {
+        root,
+        free: record.left,
+        count: head.count + 1,
+    })
 }

@@ -1,7 +1,7 @@
-// What a map has besides its table: the root, the first free record and the number of pairs. No record is written 65,535.
+// What a map has besides its table: the root, the first free record and the number of pairs.
 #[derive(Clone, Copy)]
 pub struct Head {
-    pub(crate) root: u16,
-    pub(crate) free: u16,
+    pub(crate) root: Option<u16>,
+    pub(crate) free: Option<u16>,
     pub(crate) count: u16,
 }

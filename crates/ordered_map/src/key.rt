@@ -1,34 +1,17 @@
 // Keys with a lawful total order.
 ghost use Rattle.std.specs.Prelude.{◌≡◌};
-ghost use Rattle.std.specs.declared.cmp.Ordering.{Ordering};
-ghost use Rattle.ordered_map.specs.Order.{Order, order_unsigned};
-ghost use Rattle.std.specs.Ordering.{nat_cmp};
+ghost use Rattle.std.specs.declared.cmp.Ordering.TheVariants.{Equal};
+ghost use Rattle.ordered_map.specs.Order.{order_unsigned, order_bytes};
 
-use std::cmp::Ordering;
-
-pub trait Key: Copy {
-    // How two keys compare.
-    ghost cmp: { Self → Self → Ordering };
-
-    // That this is a total order.
-    ghost lawful: { Order cmp };
-
-    fn compare(&self, other: &Self) -> Ordering
-        ensures { result ≡ cmp self.now other.now };
+pub trait Key: Copy + Ord {
+    // Keys that compare as equal are identical.
+    ghost exact: { (x y : Self) → Self.cmp x y ≡ Equal → x ≡ y };
 }
 
 impl Key for u64 {
-    ghost cmp = { nat_cmp };
+    ghost exact = { order_unsigned.exact };
+}
 
-    ghost lawful = { order_unsigned };
-
-    fn compare(&self, other: &u64) -> Ordering {
-        if *self < *other {
-            Ordering::Less
-        } else if *self == *other {
-            Ordering::Equal
-        } else {
-            Ordering::Greater
-        }
-    }
+impl Key for [u8; 8] {
+    ghost exact = { order_bytes.exact };
 }

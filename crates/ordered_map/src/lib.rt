@@ -13,9 +13,9 @@ mod least;
 mod locate;
 mod map;
 mod node;
+mod path;
 mod rise;
 mod search;
-mod serve;
 mod take;
 
 pub use head::Head;

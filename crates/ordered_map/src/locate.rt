@@ -1,45 +1,33 @@
 // The way down to a key.
-ghost use Rattle.std.specs.Prelude.{◌≤◌, length};
+// Records are indexed by `place as usize`, for the reason that stands in edit.rt.
 ghost use Rattle.ordered_map.specs.Table.{Searchable, tree_of};
 ghost use Rattle.ordered_map.specs.Path.{Located};
 
 use crate::key::Key;
-use crate::node::{NIL, Node, Step};
+use crate::node::Node;
+use crate::path::{Path, Step};
 use std::cmp::Ordering;
 
-// Writes the path to the key. Returns its length and the key's place, or the length of the path to where the key would stand.
-pub fn locate<K: Key>(
-    nodes: &[Node<K>],
-    root: u16,
-    key: &K,
-    path: &mut [Step],
-) -> Result<(usize, u16), usize>
-    requires { Searchable K.Key.cmp nodes.now root × (14 ≤ length path.old) }
-    ensures { Located K.Key.cmp (tree_of nodes.now root) key.now path.new result }
+// The way to the key and the key's place, or the way to where the key would stand.
+pub fn locate<K: Key>(nodes: &[Node<K>], root: Option<u16>, key: &K) -> Result<(Path, u16), Path>
+    requires { Searchable K.cmp nodes.now root }
+    ensures { Located K.cmp (tree_of nodes.now root) key.now result }
 {
+    let mut path = Path::new();
     let mut at = root;
-    let mut depth = 0usize;
-    while at != NIL {
-        let record = nodes[at as usize];
-        match key.compare(&record.key) {
+    while let Some(place) = at {
+        let record = nodes[place as usize];
+        match key.cmp(&record.key) {
             Ordering::Less => {
-                path[depth] = Step {
-                    place: at,
-                    left: true,
-                };
-                depth += 1;
+                path.push(Step { place, left: true });
                 at = record.left;
             }
-            Ordering::Equal => return Ok((depth, at)),
+            Ordering::Equal => return Ok((path, place)),
             Ordering::Greater => {
-                path[depth] = Step {
-                    place: at,
-                    left: false,
-                };
-                depth += 1;
+                path.push(Step { place, left: false });
                 at = record.right;
             }
         }
     }
-    Err(depth)
+    Err(path)
 }

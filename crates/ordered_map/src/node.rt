@@ -1,15 +1,12 @@
-// A record of the table.
+// A record of the table. Children are places, since the table is lent and the map uses no heap.
 ghost use Rattle.std.specs.Prelude.{◌≡◌};
-
-// No record.
-pub const NIL: u16 = 65535;
 
 #[derive(Clone, Copy)]
 pub struct Node<K> {
     pub(crate) key: K,
     pub(crate) value: u16,
-    pub(crate) left: u16,
-    pub(crate) right: u16,
+    pub(crate) left: Option<u16>,
+    pub(crate) right: Option<u16>,
     pub(crate) height: u8,
 }
 
@@ -21,16 +18,9 @@ impl<K: Copy> Node<K> {
         Node {
             key,
             value: 0,
-            left: NIL,
-            right: NIL,
+            left: None,
+            right: None,
             height: 0,
         }
     }
-}
-
-// One step of a path from the root: a place, and whether the path goes on to the left of it.
-#[derive(Clone, Copy)]
-pub struct Step {
-    pub place: u16,
-    pub left: bool,
 }

@@ -1,39 +1,45 @@
-use Rattle.std.proofs.Common.{◌<◌, length, refl, inl, inr, rules}
+use Rattle.std.proofs.Common.{◌<◌, length, refl, inr, arith, rules}
 use Rattle.ordered_map.specs.Tree.{node, leaf}
-use Rattle.ordered_map.proofs.Enters.{full, room, rising, entered, l}
+use Rattle.ordered_map.proofs.Enters.{full, room, rising, fewer, entered, l}
+use Rattle.ordered_map.specs.Order.{key_order}
 use Rattle.ordered_map.proofs.enter.enter.Goals as goal
 
-pub returns-in-Ok : goal.returns-in-Ok
-returns-in-Ok g c = (refl, inl c.in-Ok.ensures.0)
+pub returns-in_err-place : goal.returns-in_err-place
+returns-in_err-place g c = rw c.from_residual.ensures (refl, inr (full c.requires.0 c.in_err-place.was))
 
-pub returns-then-free-eq-NIL : goal.returns-then-free-eq-NIL
-returns-then-free-eq-NIL g c = (refl, inr (full _ _ _ _ c.requires c.if-free-eq-NIL.true))
-
-pub offset_bounds-nodes-free : goal.offset_bounds-nodes-free
-offset_bounds-nodes-free g c =
-    let h : c.args.free < length c.args.nodes.now = (room _ _ _ _ c.requires c.if-free-eq-NIL.false).within in
+pub offset_bounds-nodes-place : goal.offset_bounds-nodes-place
+offset_bounds-nodes-place g c =
+    let h : c.in_ok-place.place < length c.args.nodes.now = (room c.requires.0 c.in_ok-place.was).within in
     search rules
 
-pub bounds-nodes-free : goal.bounds-nodes-free
-bounds-nodes-free g c = (room _ _ _ _ c.requires c.if-free-eq-NIL.false).within
+pub bounds-nodes-place : goal.bounds-nodes-place
+bounds-nodes-place g c = (room c.requires.0 c.in_ok-place.was).within
 
-pub offset_bounds-nodes-free-2 : goal.offset_bounds-nodes-free-2
-offset_bounds-nodes-free-2 g c =
-    let h : c.args.free < length c.args.nodes.now = (room _ _ _ _ c.requires c.if-free-eq-NIL.false).within in
+pub offset_bounds-nodes-place-2 : goal.offset_bounds-nodes-place-2
+offset_bounds-nodes-place-2 g c =
+    let h : c.in_ok-place.place < length c.args.nodes.now = (room c.requires.0 c.in_ok-place.was).within in
     search rules
 
-pub bounds-nodes-free-2 : goal.bounds-nodes-free-2
-bounds-nodes-free-2 g c = (room _ _ _ _ c.requires c.if-free-eq-NIL.false).within
+pub bounds-nodes-place-2 : goal.bounds-nodes-place-2
+bounds-nodes-place-2 g c = (room c.requires.0 c.in_ok-place.was).within
 
-pub rise-top-requires : goal.rise-top-requires
-rise-top-requires g c =
-    let m = room _ _ _ _ c.requires c.if-free-eq-NIL.false in
+pub rise-root-requires : goal.rise-root-requires
+rise-root-requires g c =
+    let m = room c.requires.0 c.in_ok-place.was in
     let d = c.in-Err.ensures.1 in
-    ((l _ g.K.Key.lawful _ _ _ c.args.key c.args.value m _ _ d).frames, node c.args.free c.args.key c.args.value leaf leaf, 0, rising _ g.K.Key.lawful _ _ _ c.args.key c.args.value m _ _ d)
+    ((l (key_order g.met.K.Ord.total g.met.K.Key.exact) c.args.value m d).frames, node c.in_ok-place.place c.args.key c.args.value leaf leaf, 0, rising (key_order g.met.K.Ord.total g.met.K.Key.exact) c.args.value m d)
+
+pub overflow_add-result : goal.overflow_add-result
+overflow_add-result g c =
+    let m = room c.requires.0 c.in_ok-place.was in
+    let a = fewer (key_order g.met.K.Ord.total g.met.K.Key.exact) c.args.value m c.in-Err.ensures.1 in
+    let b = m.rep.small in
+    let h = c.requires.1 in
+    record { fits = omega arith }
 
 pub returns : goal.returns
 returns g c =
-    let m = room _ _ _ _ c.requires c.if-free-eq-NIL.false in
+    let m = room c.requires.0 c.in_ok-place.was in
     let d = c.in-Err.ensures.1 in
-    entered _ g.K.Key.lawful _ _ _ c.args.key c.args.value m _ _ d _ _ _ c.index-nodes-free.is _
-    (c.rise-top.ensures _ _ _ (rising _ g.K.Key.lawful _ _ _ c.args.key c.args.value m _ _ d))
+    entered (key_order g.met.K.Ord.total g.met.K.Key.exact) c.args.value m d c.requires.1 c.index-nodes-place.is
+    (c.rise-root.ensures _ _ _ (rising (key_order g.met.K.Ord.total g.met.K.Key.exact) c.args.value m d))

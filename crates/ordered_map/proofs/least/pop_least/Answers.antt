@@ -5,18 +5,18 @@ use Rattle.ordered_map.proofs.least.pop_least.Goals as goal
 
 pub offset_bounds-nodes-place : goal.offset_bounds-nodes-place
 offset_bounds-nodes-place g c =
-    let h : c.leftmost-depth.result.1 < length c.args.nodes.now = least_in _ _ c.requires.0 c.requires.1 _ _ _ (c.leftmost-depth.ensures c.requires.0 c.requires.1) in
+    let h : c.leftmost-path.result.1 < length c.args.nodes.now = least_in c.requires.1 (c.leftmost-path.ensures c.requires.0 c.requires.1) in
     search rules
 
 pub bounds-nodes-place : goal.bounds-nodes-place
-bounds-nodes-place g c = least_in _ _ c.requires.0 c.requires.1 _ _ _ (c.leftmost-depth.ensures c.requires.0 c.requires.1)
+bounds-nodes-place g c = least_in c.requires.1 (c.leftmost-path.ensures c.requires.0 c.requires.1)
 
 pub rise-rest-requires : goal.rise-rest-requires
 rise-rest-requires g c =
-    let l = c.leftmost-depth.ensures c.requires.0 c.requires.1 in
-    (l.frames, l.right, height l.right + 1, least_rising _ _ c.requires.0 c.requires.1 _ _ _ l _ c.index-nodes-place.is)
+    let l = c.leftmost-path.ensures c.requires.0 c.requires.1 in
+    (l.frames, l.right, height l.right + 1, least_rising c.requires.1 l c.index-nodes-place.is)
 
 pub returns : goal.returns
 returns g c t s =
-    let l = c.leftmost-depth.ensures t s in
-    popped _ _ t s _ _ _ l _ _ (c.rise-rest.ensures _ _ _ (least_rising _ _ t s _ _ _ l _ c.index-nodes-place.is))
+    let l = c.leftmost-path.ensures t s in
+    popped s l (c.rise-rest.ensures _ _ _ (least_rising s l c.index-nodes-place.is))

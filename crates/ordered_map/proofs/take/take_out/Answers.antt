@@ -1,58 +1,42 @@
-use Rattle.std.proofs.Common.{◌<◌, length, refl, arith, rules}
+use Rattle.std.proofs.Common.{◌<◌, length, refl, rules}
 use Rattle.ordered_map.specs.Tree.{node, height}
-use Rattle.ordered_map.proofs.Takes.{f, standing, rising, freed_in, taken}
+use Rattle.ordered_map.proofs.Takes.{f, standing, rising, freed_in, freed_still, taken}
 use Rattle.ordered_map.proofs.take.take_out.Goals as goal
-
-pub returns-in-Err : goal.returns-in-Err
-returns-in-Err g c = (refl, c.in-Err.ensures.0)
 
 pub excise-child-requires : goal.excise-child-requires
 excise-child-requires g c =
     let d = c.in-Ok.ensures.1 in
-    let h = f _ _ _ _ _ c.requires _ _ _ d in
-    (c.args.key.now, h.value, h.left, h.right, standing _ _ _ _ _ c.requires _ _ _ d)
+    let h = f c.requires.0 d in
+    (c.args.key.now, h.value, h.left, h.right, standing c.requires.0 d)
 
-pub rise-top-requires : goal.rise-top-requires
-rise-top-requires g c =
+pub rise-root-requires : goal.rise-root-requires
+rise-root-requires g c =
     let d = c.in-Ok.ensures.1 in
-    let e = c.excise-child.ensures _ _ _ _ (standing _ _ _ _ _ c.requires _ _ _ d) in
-    let h = f _ _ _ _ _ c.requires _ _ _ d in
-    (h.frames, e.tree, height (node c.in-Ok.found.1 c.args.key.now h.value h.left h.right), rising _ _ _ _ _ c.requires _ _ _ d _ _ _ e)
+    let e = c.excise-child.ensures _ _ _ _ (standing c.requires.0 d) in
+    let h = f c.requires.0 d in
+    (h.frames, e.tree, height (node c.in-Ok.place c.args.key.now h.value h.left h.right), rising c.requires.0 d e)
 
 pub bounds-nodes-freed : goal.bounds-nodes-freed
 bounds-nodes-freed g c =
     let d = c.in-Ok.ensures.1 in
-    let e = c.excise-child.ensures _ _ _ _ (standing _ _ _ _ _ c.requires _ _ _ d) in
-    let fi = freed_in _ _ _ _ _ c.requires _ _ _ d _ _ _ e in
-    let el = e.long in
-    let rl = (c.rise-top.ensures _ _ _ (rising _ _ _ _ _ c.requires _ _ _ d _ _ _ e)).long in
-    omega arith
+    let e = c.excise-child.ensures _ _ _ _ (standing c.requires.0 d) in
+    freed_still c.requires.0 d e (c.rise-root.ensures _ _ _ (rising c.requires.0 d e))
 
 pub offset_bounds-nodes-freed : goal.offset_bounds-nodes-freed
 offset_bounds-nodes-freed g c =
     let d = c.in-Ok.ensures.1 in
-    let e = c.excise-child.ensures _ _ _ _ (standing _ _ _ _ _ c.requires _ _ _ d) in
-    let h : c.excise-child.result.1 < length c.args.nodes.now = freed_in _ _ _ _ _ c.requires _ _ _ d _ _ _ e in
+    let e = c.excise-child.ensures _ _ _ _ (standing c.requires.0 d) in
+    let h : c.excise-child.result.1 < length c.args.nodes.now = freed_in c.requires.0 d e in
     search rules
 
-pub bounds-nodes-freed-2 : goal.bounds-nodes-freed-2
-bounds-nodes-freed-2 g c =
+pub bounds-nodes-freed-in-Ok : goal.bounds-nodes-freed-in-Ok
+bounds-nodes-freed-in-Ok g c =
     let d = c.in-Ok.ensures.1 in
-    let e = c.excise-child.ensures _ _ _ _ (standing _ _ _ _ _ c.requires _ _ _ d) in
-    let fi = freed_in _ _ _ _ _ c.requires _ _ _ d _ _ _ e in
-    let el = e.long in
-    let rl = (c.rise-top.ensures _ _ _ (rising _ _ _ _ _ c.requires _ _ _ d _ _ _ e)).long in
-    omega arith
-
-pub offset_bounds-nodes-freed-2 : goal.offset_bounds-nodes-freed-2
-offset_bounds-nodes-freed-2 g c =
-    let d = c.in-Ok.ensures.1 in
-    let e = c.excise-child.ensures _ _ _ _ (standing _ _ _ _ _ c.requires _ _ _ d) in
-    let h : c.excise-child.result.1 < length c.args.nodes.now = freed_in _ _ _ _ _ c.requires _ _ _ d _ _ _ e in
-    search rules
+    let e = c.excise-child.ensures _ _ _ _ (standing c.requires.0 d) in
+    freed_still c.requires.0 d e (c.rise-root.ensures _ _ _ (rising c.requires.0 d e))
 
 pub returns : goal.returns
 returns g c =
     let d = c.in-Ok.ensures.1 in
-    let e = c.excise-child.ensures _ _ _ _ (standing _ _ _ _ _ c.requires _ _ _ d) in
-    taken _ _ _ _ _ c.requires _ _ _ d _ _ _ e _ _ _ (c.rise-top.ensures _ _ _ (rising _ _ _ _ _ c.requires _ _ _ d _ _ _ e)) _ refl
+    let e = c.excise-child.ensures _ _ _ _ (standing c.requires.0 d) in
+    taken c.requires.0 d e c.requires.1 (c.rise-root.ensures _ _ _ (rising c.requires.0 d e)) _ refl
