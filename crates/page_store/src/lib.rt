@@ -1,5 +1,6 @@
 #![tactic(auto)]
 
+mod bytes;
 mod laws;
 mod lent;
 mod moves;
@@ -7,7 +8,9 @@ mod refusal;
 mod sizes;
 mod store;
 
+pub use bytes::tell_bytes;
 pub use laws::stores_keep_their_pages;
+pub use lent::Lent;
 pub use moves::move_page;
 pub use refusal::Refusal;
 pub use sizes::{check_sizes, is_page_size};

@@ -1,6 +1,6 @@
 use crate::task::{PAGE, file_in_layer, file_schedule, report, show_refusals, show_slots};
 use frame_pool::FramePool;
-use page_store::PageStore;
+use page_store::{Lent, PageStore};
 use std::io;
 use swap_log::SwapLog;
 use zero_layer::ZeroLayer;
@@ -94,7 +94,7 @@ pub fn layer_over_layer(rt: &impl Print) -> io::Result<()> {
     let Some(mut log) = new_log(&mut numbers, &mut bytes) else {
         return Ok(());
     };
-    let mut lower = ZeroLayer::new(&mut log);
+    let mut lower = ZeroLayer::new(Lent { store: &mut log });
     layer_over(
         rt,
         "a zero layer over a swap log",

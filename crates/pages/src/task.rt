@@ -1,5 +1,5 @@
 use fee_schedule::{line_count, read_fee, write_fee};
-use page_store::{PageStore, Refusal};
+use page_store::{Lent, PageStore, Refusal};
 use std::io;
 use zero_layer::ZeroLayer;
 
@@ -110,6 +110,6 @@ pub fn show_refusals<S: PageStore>(rt: &impl Print, store: &mut S) -> io::Result
 
 // Files the schedule in a layer over a store, and shows what the store itself has kept.
 pub fn file_in_layer<S: PageStore>(rt: &impl Print, store: &mut S) -> io::Result<()> {
-    let mut layer = ZeroLayer::new(store);
+    let mut layer = ZeroLayer::new(Lent { store });
     file_schedule(rt, &mut layer)
 }

@@ -88,7 +88,7 @@ mod pools {
 #[cfg(test)]
 mod logs {
     use crate::wear::{Buffers, wears_well};
-    use page_store::{PageStore, Refusal};
+    use page_store::{Lent, PageStore, Refusal};
     use std::process::Abort;
     use std::test::Fail;
     use swap_log::SwapLog;
@@ -102,7 +102,7 @@ mod logs {
         count: usize,
         buffers: &mut Buffers,
     ) -> Result<(), Fail> {
-        let mut upper = ZeroLayer::new(ZeroLayer::new(store));
+        let mut upper = ZeroLayer::new(ZeroLayer::new(Lent { store }));
         wears_well(rt, &mut upper, page, count, 3, buffers)
     }
 

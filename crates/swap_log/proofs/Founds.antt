@@ -20,7 +20,7 @@ pub slot_below : (s : SwapLog) (q : ℕ) → q < size_of (model_of s) → q < s.
 slot_below s q h = let l = log_size s.page s.count (positions_of s) in omega arith
 
 -- a slot's number is borne once at most
-once_here : (s : SwapLog) (q : ℕ) → q < size_of (model_of s) → bearing q (positions_of s) ≤ 1
+pub once_here : (s : SwapLog) (q : ℕ) → q < size_of (model_of s) → bearing q (positions_of s) ≤ 1
 once_here s q h = s.once q (λ e. let few = s.few in let l = slot_below s q h in omega arith)
 
 -- an empty slot's number is borne nowhere

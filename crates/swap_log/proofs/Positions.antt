@@ -243,7 +243,7 @@ apart xs once q =
     (λ (e : q ≡ 65535 → ⊥). let z = live_bears q xs e in let o = once q e in omega arith)
     (cases_eq q 65535)
 
-few_live : (n : ℕ) (xs : List Position) → Within n xs → Once xs → length (live xs) ≤ n
+pub few_live : (n : ℕ) (xs : List Position) → Within n xs → Once xs → length (live xs) ≤ n
 unfolding bearing
 few_live n xs within once =
     let r : length (map (λ (x : Position). x.number) (live xs)) ≤ n = pigeonhole n (map (λ x. x.number) (live xs)) (below n xs within) (apart xs once) in

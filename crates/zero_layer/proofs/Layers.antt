@@ -1,4 +1,4 @@
-use Rattle.std.proofs.Common.{◌≡◌, ℕ, ◌<◌, ◌≤◌, Bool, true, false, cond, length, get_or, set, replicate, Some, None, Ok, Option, sym, ap, ◌∙◌, ⊎_elim, arith}
+use Rattle.std.proofs.Common.{◌≡◌, ℕ, ◌<◌, ◌≤◌, Bool, true, false, cond, length, get_or, set, replicate, Some, None, Ok, Option, sym, refl, ap, ◌∙◌, subst, ⊎_elim, arith}
 use Rattle.std.proofs.lemmas.List.FromFn.{length-map-range_with_len, get_or-map-range_with_len}
 use Rattle.std.proofs.lemmas.List.{ext_get_or, set-get_or, get_or-set_same, get_or-set_other, get_or_past, length-set, length-replicate, get_or-replicate}
 use Rattle.std.proofs.lemmas.Bool.{cases_eq, cases_lt, lt-ltb, both_ways}
@@ -8,8 +8,8 @@ use Rattle.page_store.specs.Calls.{answer, after, ask_refusal, empty_refusal, Pu
 use Rattle.page_store.specs.Laws.{Done}
 use Rattle.page_store.proofs.Counts.{counted_set}
 use Rattle.page_store.proofs.Slots.{after_same, slot_is_below_size, put_accepted}
-use Rattle.zero_layer.specs.Zeros.{zeros}
-use Rattle.zero_layer.specs.Layer.{Layer, is_marked, slot_at, slots_over, layered, Tidy}
+use Rattle.zero_layer.specs.Zeros.{zeros, is_zeros}
+use Rattle.zero_layer.specs.Layer.{Layer, is_marked, slot_at, slots_over, layered, Tidy, NoZeroPage}
 
 -- What a layer holds.
 
@@ -63,6 +63,20 @@ tidy_turned l i m x h hm alone t =
           (cases_eq k i);
     }
 
+-- no page of zeros comes below where x is none
+free_turned : (s : Store) (i : ℕ) (x : Option Page) → i < size_of s → ((b : Page) → x ≡ Some b → is_zeros b ≡ false) → NoZeroPage s → NoZeroPage (with_slot s i x)
+free_turned s i x h other f k b e =
+    ⊎_elim
+    (λ (q : k ≡ i). other b (sym (get_or-set_same s.slots i x None h) ∙ ap (λ j. get_or (set s.slots i x) j None) (sym q) ∙ e))
+    (λ (ne : k ≡ i → ⊥). f k b (sym (get_or-set_other s.slots i k x None ne) ∙ e))
+    (cases_eq k i)
+
+pub free_put : (s : Store) (i : ℕ) (page : Page) → i < size_of s → is_zeros page ≡ false → NoZeroPage s → NoZeroPage (with_slot s i (Some page))
+free_put s i page h other f = free_turned s i (Some page) h (λ b e. let p : page ≡ b = cc in rw p at other) f
+
+pub free_emptied : (s : Store) (i : ℕ) → i < size_of s → NoZeroPage s → NoZeroPage (with_slot s i None)
+free_emptied s i h f = free_turned s i None h (λ b e. let z : ◌≡◌ {A = ℕ} 0 1 = cc in absurd (omega arith)) f
+
 -- What a put leaves: zeros as a mark, any other page below.
 
 pub put_zeros : (l : Layer) (i : ℕ) (page : Page) (b : Store) → i < size_of l.below → i < length l.marks → length page ≡ l.below.page → page ≡ zeros (length page) → b ≡ with_slot l.below i None → Put (layered l) (layered (record { below = b; marks = set l.marks i true })) i page (Ok tt)
@@ -107,9 +121,22 @@ pub plain_stays : (l : Layer) (i : ℕ) (o : Option Refusal) → is_marked l i �
 plain_stays l i o plain =
     sym (after_same o l.marks) ∙ ap (λ ms. after o ms l.marks) (sym (ap (set l.marks i) (sym plain) ∙ set-get_or l.marks i false))
 
-pub cleared : (l k : Layer) (i : ℕ) (o : Option Refusal) → i < size_of l.below → i < length l.marks → k.below ≡ after o (with_slot l.below i None) l.below → k.marks ≡ after o (set l.marks i false) l.marks → layered k ≡ after o (with_slot (layered l) i None) (layered l)
-cleared l k i (Some e) h hm b m = ap layered (same_layer k l b m)
-cleared l k i None h hm b m = ap layered (same_layer k (turned l i false None) b m) ∙ layer_turned l i false None h hm
+pub record Cleared (l k : Layer) (i : ℕ) (o : Option Refusal) : Type 0 where
+  pub model : layered k ≡ after o (with_slot (layered l) i None) (layered l)
+  pub tidy : Tidy l → Tidy k
+  pub free : NoZeroPage l.below → NoZeroPage k.below
+
+pub cleared : (l k : Layer) (i : ℕ) (o : Option Refusal) → i < size_of l.below → i < length l.marks → k.below ≡ after o (with_slot l.below i None) l.below → k.marks ≡ after o (set l.marks i false) l.marks → Cleared l k i o
+cleared l k i (Some e) h hm b m =
+    let same = same_layer k l b m in
+    record { model = ap layered same; tidy = subst Tidy (sym same); free = subst NoZeroPage (sym b) }
+cleared l k i None h hm b m =
+    let same = same_layer k (turned l i false None) b m in
+    record {
+      model = ap layered same ∙ layer_turned l i false None h hm;
+      tidy = λ t. subst Tidy (sym same) (tidy_turned l i false None h hm (λ _. refl) t);
+      free = λ f. subst NoZeroPage (sym b) (free_emptied l.below i h f);
+    }
 
 -- A layer with no mark.
 

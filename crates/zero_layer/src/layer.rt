@@ -1,5 +1,3 @@
-ghost use Rattle.zero_layer.specs.Layer.{Tidy};
-
 use page_store::PageStore;
 
 pub mod calls;
@@ -10,5 +8,4 @@ pub mod calls;
 pub struct ZeroLayer<S: PageStore> {
     below: S,
     marks: [bool; 2048],
-    pub ghost tidy: { Tidy (record { below = S.PageStore.model below; marks = marks }) },
 }

@@ -13,7 +13,6 @@ const EMPTY: u8 = 0;
 
 const FULL: u8 = 1;
 
-// In put and empty, `self.check_slot` would ask the reference, which is a store too: hence `(*self)`.
 impl PageStore for FramePool<'_> {
     ghost model = { model_of };
 
@@ -56,8 +55,8 @@ impl PageStore for FramePool<'_> {
         ensures slot_lies_at_its_place { page_at self.old.page (memory_of self.new).bytes slot ≡ after (put_refusal (model_of self.old) slot (length page.now)) page.now (page_at self.old.page (memory_of self.old).bytes slot) }
         ensures keeps_bytes_and_marks_of_other_slots { memory_of self.new ≡ after (put_refusal (model_of self.old) slot (length page.now)) (saved self.old.page (memory_of self.old) slot page.now) (memory_of self.old) }
     {
-        (*self).check_length(page.len())?;
-        (*self).check_slot(slot)?;
+        self.check_length(page.len())?;
+        self.check_slot(slot)?;
         let at = slot * self.page;
         let end = at + self.page;
         let FramePool { bytes, marks, .. } = self;
@@ -70,7 +69,7 @@ impl PageStore for FramePool<'_> {
         ensures store { Emptied (model_of self.old) (model_of self.new) slot result }
         ensures keeps_all_bytes_and_marks_of_other_slots { memory_of self.new ≡ after (empty_refusal (model_of self.old) slot) (cleared (memory_of self.old) slot) (memory_of self.old) }
     {
-        if !(*self).is_full(slot)? {
+        if !self.is_full(slot)? {
             return Err(Refusal::EmptySlot);
         }
         self.marks[slot] = EMPTY;

@@ -130,7 +130,6 @@ impl SwapLog<'_> {
     }
 }
 
-// In put and empty, `self.check_slot` would ask the reference, which is a store too: hence `(*self)`.
 impl PageStore for SwapLog<'_> {
     ghost model = { model_of };
 
@@ -166,8 +165,8 @@ impl PageStore for SwapLog<'_> {
         ensures compaction_keeps_order { live (positions_of self.new) ≡ after (put_refusal (model_of self.old) slot (length page.now)) (live (killed slot (positions_of self.old)) ++ record { number = slot; page = page.now } ∷ []) (live (positions_of self.old)) }
         ensures written_at_the_end { positions_of self.new ≡ after (put_refusal (model_of self.old) slot (length page.now)) (put_at_the_end (position_count self.old) (positions_of self.old) slot page.now) (positions_of self.old) }
     {
-        (*self).check_length(page.len())?;
-        (*self).check_slot(slot)?;
+        self.check_length(page.len())?;
+        self.check_slot(slot)?;
         let _ = self.kill(slot);
         self.append(slot, page);
         Ok(())
@@ -179,7 +178,7 @@ impl PageStore for SwapLog<'_> {
         ensures one_live_position { OneLivePosition self.new.count (positions_of self.new) }
         ensures leaves_the_position_dead { positions_of self.new ≡ after (empty_refusal (model_of self.old) slot) (killed slot (positions_of self.old)) (positions_of self.old) }
     {
-        (*self).check_slot(slot)?;
+        self.check_slot(slot)?;
         self.kill(slot)
     }
 }

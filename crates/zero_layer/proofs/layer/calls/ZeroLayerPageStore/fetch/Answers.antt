@@ -9,7 +9,7 @@ use Rattle.zero_layer.proofs.layer.calls.ZeroLayerPageStore.fetch.Goals as goal
 
 pub returns-then-self-slot : goal.returns-then-self-slot
 returns-then-self-slot g c =
-    let l = layer_of g.S.PageStore c.args.self.now in
+    let l = layer_of g.S.PageStore.model c.args.self.now in
     let i = c.args.slot in
     let n = length c.args.buffer.now in
     let h = checked l i c.in_ok-check_slot.ensures in
@@ -27,7 +27,7 @@ returns-then-self-slot g c =
 
 pub returns : goal.returns
 returns g c =
-    let l = layer_of g.S.PageStore c.args.self.now in
+    let l = layer_of g.S.PageStore.model c.args.self.now in
     let i = c.args.slot in
     let h = checked l i c.in_ok-check_slot.ensures in
     record {
