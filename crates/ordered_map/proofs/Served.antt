@@ -19,7 +19,7 @@ use Rattle.ordered_map.proofs.Pairs.{put_gets, put_others, cut_absent, cut_other
 -- ---- the part that serves
 
 module _ {K : Type 0} (ns : List (Node K)) where
-  length-served : length (served ns) ≡ min (length ns) 1024
+  pub length-served : length (served ns) ≡ min (length ns) 1024
   unfolding served
   length-served = let a = length-take 1024 ns in omega arith
 
@@ -28,7 +28,7 @@ module _ {K : Type 0} (ns : List (Node K)) where
   part_served {n} e = let d : n ≡ min 1024 (length ns) = omega arith in ap (λ m. take m ns) d ∙ take_min 1024 ns
 
 module _ {K : Type 0} (ns : List (Node K)) {n : ℕ} (e : n ≡ min (length ns) 1024) where
-  joined_served : (ms : List (Node K)) → length ms ≡ length (take n ns) → served (ms ++ drop n ns) ≡ ms
+  pub joined_served : (ms : List (Node K)) → length ms ≡ length (take n ns) → served (ms ++ drop n ns) ≡ ms
   joined_served ms l =
       let a = length-take n ns in
       let b = length-append ms (drop n ns) in
@@ -46,7 +46,7 @@ module _ {K : Type 0} (ns : List (Node K)) {n : ℕ} (e : n ≡ min (length ns) 
 -- ---- what is sound
 
 module _ {K : Type 0} {c : K → K → Ordering} where
-  sound_by : (ns : List (Node K)) (h : Head) → Headed c (served ns) h → Sound c ns h
+  pub sound_by : (ns : List (Node K)) (h : Head) → Headed c (served ns) h → Sound c ns h
   sound_by ns h (s, e) = record {
     kept = s;
     counted = e;

@@ -12,7 +12,7 @@ use Rattle.ordered_map.specs.Tree.{Tree, leaf, node, top, Balanced, Rises}
 use Rattle.ordered_map.specs.Table.{Holds, Chained, Rep, Kept, first}
 use Rattle.ordered_map.specs.Map.{Sound, served}
 
-some_same : {X : Type 0} (o : Option X) (x y : X) → o ≡ Some x → o ≡ Some y → x ≡ y
+pub some_same : {X : Type 0} (o : Option X) (x y : X) → o ≡ Some x → o ≡ Some y → x ≡ y
 some_same o x y p q = Prim.cc
 
 -- ---- the places tell the tree and the free places

@@ -11,8 +11,8 @@ use crate::rise::rise;
 // Table and head come apart here, since only the part of the table that serves is lent.
 // Enters a pair, and returns the new head; nothing where the key is there or no record is free.
 pub fn enter<K: Key>(nodes: &mut [Node<K>], head: Head, key: K, value: u16) -> Option<Head>
-    requires { Headed K.cmp nodes.old head }
-    ensures { Entered K.cmp nodes.old head key value nodes.new result }
+    requires { Headed K.Key.cmp nodes.old head }
+    ensures { Entered K.Key.cmp nodes.old head key value nodes.new result }
 {
     let Err(path) = locate(nodes, head.root, &key) else {
         return None;

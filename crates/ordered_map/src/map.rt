@@ -28,7 +28,7 @@ fn room_in(records: usize) -> usize
 pub struct OrderedMap<'a, K: Key> {
     nodes: &'a mut [Node<K>],
     head: Head,
-    pub ghost sound: { Sound K.cmp nodes.now head } by { Sound-prop (Coded-set K.code) K.cmp nodes.now head },
+    pub ghost sound: { Sound K.Key.cmp nodes.now head } by { Sound-prop (Coded-set K.code) K.Key.cmp nodes.now head },
 }
 
 impl<'a, K: Key> OrderedMap<'a, K> {
@@ -52,7 +52,7 @@ impl<'a, K: Key> OrderedMap<'a, K> {
 
     // The map that was put down to its head, over the same table.
     pub fn resume(nodes: &'a mut [Node<K>], head: Head) -> Self
-        requires { Sound K.cmp nodes.old head }
+        requires { Sound K.Key.cmp nodes.old head }
         ensures same { (result.nodes.now ≡ nodes.old) × (result.head ≡ head) }
         ensures table { result.nodes.ghost_name ≡ nodes.entry.ghost_name }
     {
@@ -61,7 +61,7 @@ impl<'a, K: Key> OrderedMap<'a, K> {
 
     // The head, to put the map down to.
     pub fn head(&self) -> Head
-        ensures sound { Sound K.cmp self.now.nodes.now result }
+        ensures sound { Sound K.Key.cmp self.now.nodes.now result }
         ensures same { result ≡ self.now.head }
     {
         self.head
@@ -76,8 +76,8 @@ impl<'a, K: Key> OrderedMap<'a, K> {
 
     // The value under a key, and how many comparisons of keys that took.
     pub fn look_up(&self, key: &K) -> (Option<u16>, u8)
-        ensures value { result.0 ≡ value_at K.cmp (pairs_in self.now.nodes.now self.now.head) key.now }
-        ensures count { result.1 ≡ steps K.cmp (tree_in self.now.nodes.now self.now.head) key.now }
+        ensures value { result.0 ≡ value_at K.Key.cmp (pairs_in self.now.nodes.now self.now.head) key.now }
+        ensures count { result.1 ≡ steps K.Key.cmp (tree_in self.now.nodes.now self.now.head) key.now }
         ensures bound { (h : ℕ) → length (pairs_in self.now.nodes.now self.now.head) < least (h + 1) → result.1 ≤ h }
         ensures most { result.1 ≤ 14 }
     {
@@ -87,7 +87,7 @@ impl<'a, K: Key> OrderedMap<'a, K> {
 
     // Enters a pair, and tells whether it did, as a set's insert does. False, and nothing changed, where the key is present or there is no room.
     pub fn enter(&mut self, key: K, value: u16) -> bool
-        ensures cases { AfterEnter K.cmp self.old.nodes.now self.old.head key value self.new.nodes.now self.new.head result }
+        ensures cases { AfterEnter K.Key.cmp self.old.nodes.now self.old.head key value self.new.nodes.now self.new.head result }
         ensures long { length self.new.nodes.now ≡ length self.old.nodes.now }
         ensures table { self.new.nodes.ghost_name ≡ self.old.nodes.ghost_name }
     {
@@ -104,7 +104,7 @@ impl<'a, K: Key> OrderedMap<'a, K> {
     // The lines are those of `enter` but for the call: what both do with its answer is less than a helper's contract would be.
     // Removes a key, and tells whether it did, as a set's remove does. False, and nothing changed, where the key is absent.
     pub fn remove(&mut self, key: &K) -> bool
-        ensures cases { AfterRemove K.cmp self.old.nodes.now self.old.head key.now self.new.nodes.now self.new.head result }
+        ensures cases { AfterRemove K.Key.cmp self.old.nodes.now self.old.head key.now self.new.nodes.now self.new.head result }
         ensures long { length self.new.nodes.now ≡ length self.old.nodes.now }
         ensures table { self.new.nodes.ghost_name ≡ self.old.nodes.ghost_name }
     {

@@ -12,8 +12,8 @@ use crate::rise::rise;
 // Table and head come apart here, as in `enter`.
 // Takes a key out, and returns the new head; nothing where the key is not there.
 pub fn take_out<K: Key>(nodes: &mut [Node<K>], head: Head, key: &K) -> Option<Head>
-    requires { Headed K.cmp nodes.old head }
-    ensures { Taken K.cmp nodes.old head key.now nodes.new result }
+    requires { Headed K.Key.cmp nodes.old head }
+    ensures { Taken K.Key.cmp nodes.old head key.now nodes.new result }
 {
     let Ok((path, place)) = locate(nodes, head.root, key) else {
         return None;

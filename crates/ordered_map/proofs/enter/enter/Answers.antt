@@ -1,7 +1,6 @@
 use Rattle.std.proofs.Common.{◌<◌, length, refl, inr, arith, rules}
 use Rattle.ordered_map.specs.Tree.{node, leaf}
 use Rattle.ordered_map.proofs.Enters.{full, room, rising, fewer, entered, l}
-use Rattle.ordered_map.specs.Order.{key_order}
 use Rattle.ordered_map.proofs.enter.enter.Goals as goal
 
 pub returns-in_err-place : goal.returns-in_err-place
@@ -27,12 +26,12 @@ pub rise-root-requires : goal.rise-root-requires
 rise-root-requires g c =
     let m = room c.requires.0 c.in_ok-place.was in
     let d = c.in-Err.ensures.1 in
-    ((l (key_order g.met.K.Ord.total g.met.K.Key.exact) c.args.value m d).frames, node c.in_ok-place.place c.args.key c.args.value leaf leaf, 0, rising (key_order g.met.K.Ord.total g.met.K.Key.exact) c.args.value m d)
+    ((l g.K.Key.lawful c.args.value m d).frames, node c.in_ok-place.place c.args.key c.args.value leaf leaf, 0, rising g.K.Key.lawful c.args.value m d)
 
 pub overflow_add-result : goal.overflow_add-result
 overflow_add-result g c =
     let m = room c.requires.0 c.in_ok-place.was in
-    let a = fewer (key_order g.met.K.Ord.total g.met.K.Key.exact) c.args.value m c.in-Err.ensures.1 in
+    let a = fewer g.K.Key.lawful c.args.value m c.in-Err.ensures.1 in
     let b = m.rep.small in
     let h = c.requires.1 in
     record { fits = omega arith }
@@ -41,5 +40,5 @@ pub returns : goal.returns
 returns g c =
     let m = room c.requires.0 c.in_ok-place.was in
     let d = c.in-Err.ensures.1 in
-    entered (key_order g.met.K.Ord.total g.met.K.Key.exact) c.args.value m d c.requires.1 c.index-nodes-place.is
-    (c.rise-root.ensures _ _ _ (rising (key_order g.met.K.Ord.total g.met.K.Key.exact) c.args.value m d))
+    entered g.K.Key.lawful c.args.value m d c.requires.1 c.index-nodes-place.is
+    (c.rise-root.ensures _ _ _ (rising g.K.Key.lawful c.args.value m d))

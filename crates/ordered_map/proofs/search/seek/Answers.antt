@@ -1,6 +1,5 @@
 use Rattle.std.proofs.Common.{◌<◌, length, ◌∙◌, arith, rules}
 use Rattle.ordered_map.proofs.Lookups.{start, turn, ended, more_steps, sound_steps, sound_find}
-use Rattle.ordered_map.specs.Order.{key_order}
 use Rattle.ordered_map.proofs.search.seek.Goals as goal
 
 pub loop-at-init : goal.loop-at-init
@@ -32,7 +31,7 @@ loop-at-preserved-in-Less g c = (turn c.loop-at.invariant c.in-Some.is).1 _ _ c.
 pub returns-in-Equal : goal.returns-in-Equal
 returns-in-Equal g c =
     let m = (turn c.loop-at.invariant c.in-Some.is).1 _ _ c.index-nodes-place.is c.in-Equal.ensures in
-    record { value = m.0 ∙ sound_find (key_order g.met.K.Ord.total g.met.K.Key.exact) c.requires.1 _; count = m.1 }
+    record { value = m.0 ∙ sound_find g.K.Key.lawful c.requires.1 _; count = m.1 }
 
 pub loop-at-smaller : goal.loop-at-smaller
 loop-at-smaller g c =
@@ -46,4 +45,4 @@ loop-at-preserved g c = (turn c.loop-at.invariant c.in-Some.is).1 _ _ c.index-no
 pub returns : goal.returns
 returns g c =
     let m = ended c.loop-at.invariant c.in_default.is in
-    record { value = m.0 ∙ sound_find (key_order g.met.K.Ord.total g.met.K.Key.exact) c.requires.1 _; count = m.1 }
+    record { value = m.0 ∙ sound_find g.K.Key.lawful c.requires.1 _; count = m.1 }

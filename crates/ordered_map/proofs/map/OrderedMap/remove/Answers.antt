@@ -1,4 +1,3 @@
-use Rattle.ordered_map.specs.Order.{key_order}
 use Rattle.ordered_map.proofs.Served.{part_headed, taken_sound, taken_cases, absent_cases}
 use Rattle.ordered_map.proofs.map.OrderedMap.remove.Goals as goal
 
@@ -7,12 +6,12 @@ take_out-requires g c = part_headed c.args.self.now.sound c.room_in-room.ensures
 
 pub invariant_of-self : goal.invariant_of-self
 invariant_of-self g c =
-    record { sound = taken_sound (key_order g.met.K.Ord.total g.met.K.Key.exact) c.args.self.now.sound c.room_in-room.ensures c.args.key.now c.in-Some.ensures }
+    record { sound = taken_sound g.K.Key.lawful c.args.self.now.sound c.room_in-room.ensures c.args.key.now c.in-Some.ensures }
 
 pub returns-in-Some-clause-cases : goal.returns-in-Some-clause-cases
 returns-in-Some-clause-cases g c =
-    taken_cases (key_order g.met.K.Ord.total g.met.K.Key.exact) c.args.self.now.sound c.room_in-room.ensures c.args.key.now c.in-Some.ensures
+    taken_cases g.K.Key.lawful c.args.self.now.sound c.room_in-room.ensures c.args.key.now c.in-Some.ensures
 
 pub returns-in-None-clause-cases : goal.returns-in-None-clause-cases
 returns-in-None-clause-cases g c =
-    absent_cases (key_order g.met.K.Ord.total g.met.K.Key.exact) c.args.self.now.sound c.room_in-room.ensures c.args.key.now c.in-None.ensures
+    absent_cases g.K.Key.lawful c.args.self.now.sound c.room_in-room.ensures c.args.key.now c.in-None.ensures
