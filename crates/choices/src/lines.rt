@@ -1,3 +1,7 @@
+ghost use Rattle.std.specs.Prelude.{◌≡◌};
+ghost use Rattle.std.specs.Char.{is_ascii_hexdigit};
+ghost use Rattle.std.specs.List.{list_all};
+
 use crate::answer::Answered;
 use crate::choose;
 use crate::fault::Fault;
@@ -17,7 +21,7 @@ pub fn answer(heap: Global, line: &str) -> Result<Answered, AllocError> {
 }
 
 fn key(heap: Global, digits: &str) -> Result<Answered, AllocError> {
-    if digits.is_empty() {
+    if digits.is_empty() || digits.len() % 2 != 0 || !are_hex_digits(digits) {
         return Ok(Err(Fault::BadLine));
     }
     let mut bytes = vec![in heap; 0u8; digits.len() / 2]?;
@@ -25,6 +29,14 @@ fn key(heap: Global, digits: &str) -> Result<Answered, AllocError> {
         Ok(()) => Ok(choose::key(bytes.as_slice())),
         Err(_) => Err(Fault::BadLine),
     })
+}
+
+// Asked before there is memory for the bytes, since a bad line needs none. The fold is compiled to vector instructions, as that of `decimal` is.
+fn are_hex_digits(text: &str) -> bool
+    ensures { result ≡ list_all is_ascii_hexdigit text.now }
+{
+    text.bytes()
+        .fold(true, |all, byte| all & byte.is_ascii_hexdigit())
 }
 
 fn lru(rest: &str) -> Answered {

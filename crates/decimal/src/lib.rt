@@ -17,10 +17,12 @@ where
     text.parse().ok()
 }
 
+// The fold has no way out before its end, so that it is compiled to vector instructions: a second pass over a long text costs little.
 fn are_digits(text: &str) -> bool
     ensures { result ≡ are_digits text.now }
 {
-    text.bytes().all(|byte| byte.is_ascii_digit())
+    text.bytes()
+        .fold(true, |all, byte| all & byte.is_ascii_digit())
 }
 
 // What is read at the unsigned types. It does nothing; its contract is the rule.

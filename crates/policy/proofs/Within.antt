@@ -5,10 +5,10 @@ use Rattle.policy.specs.Rows.{is_within, all_within, row_at, Limits}
 
 -- What the limits of all rows say of one row.
 
-limits_of : (row : Row) → is_within row ≡ true → Limits row
+pub limits_of : (row : Row) → is_within row ≡ true → Limits row
 limits_of row h = grind (arith, nat_tests)
 
-within_at : (rows : List Row) (g : ℕ) → all_within rows ≡ true → is_within (row_at rows g) ≡ true
+pub within_at : (rows : List Row) (g : ℕ) → all_within rows ≡ true → is_within (row_at rows g) ≡ true
 within_at [] g h = refl
 within_at (row ∷ rows) zero h = grind arith
 within_at (row ∷ rows) (suc g) h = within_at rows g (grind arith)
